@@ -1,0 +1,7 @@
+-- The theorems: mission point 3 over lists of rules and vectors.
+pub mod Sums
+pub mod Rows
+pub mod Steps
+pub mod Stacks
+pub mod Equations
+pub mod Upper

@@ -1,0 +1,50 @@
+-- The laws of sums over the rules of a row.
+use Prim.Native.Nat.{ℕ, zero, suc, _+_, _*_, _≤_, _<_}
+use native.Mathlib.Nat.{mul-le-mul-left, mul-one, mul-comm, mul-left-comm}
+use native.Mathlib.Omega.{arith}
+use mathlib.Core.Path.{_≡_, refl, sym, ap, _∙_, fun-ext}
+use mathlib.Core.List.{List, [], _∷_}
+use Rattle.ppda.specs.Sums.{bit, sum, sumTo, In}
+use Rattle.ppda.specs.Rules.{Rule, fits, overRow}
+use Rattle.ppda.proofs.Sums.{sum-cong, sum-mono, sum-add, sum-mul, sum-swap, sumTo-mul}
+
+module _ (m : List Rule) (p z : ℕ) where
+  pub row-cong : (h k : Rule → ℕ) → ((r : Rule) → In r m → h r ≡ k r) → overRow m p z h ≡ overRow m p z k
+  unfolding overRow
+  row-cong h k e = sum-cong _ _ m (λ r i. ap (λ n. bit (fits r p z) * (r .weight * n)) (e r i))
+
+  pub row-mono : (h k : Rule → ℕ) → ((r : Rule) → In r m → h r ≤ k r) → overRow m p z h ≤ overRow m p z k
+  unfolding overRow
+  row-mono h k e = sum-mono _ _ m (λ r i. mul-le-mul-left (bit (fits r p z)) (mul-le-mul-left (r .weight) (e r i)))
+
+  pub row-add : (h k : Rule → ℕ) → overRow m p z (λ r. h r + k r) ≡ overRow m p z h + overRow m p z k
+  unfolding overRow
+  row-add h k = sum-cong _ _ m (λ r i. omega arith) ∙ sum-add (λ r. bit (fits r p z) * (r .weight * h r)) (λ r. bit (fits r p z) * (r .weight * k r)) m
+
+  pub row-mul : (c : ℕ) (h : Rule → ℕ) → overRow m p z (λ r. c * h r) ≡ c * overRow m p z h
+  unfolding overRow
+  row-mul c h = sum-cong _ _ m (λ r i. omega arith) ∙ sum-mul c (λ r. bit (fits r p z) * (r .weight * h r)) m
+
+  pub row-const : (c : ℕ) → overRow m p z (λ r. c) ≡ c * overRow m p z (λ r. 1)
+  row-const c = ap (overRow m p z) (fun-ext (λ r. sym (mul-one c))) ∙ row-mul c (λ r. 1)
+
+  -- Sums on two scales compare as their terms do.
+  pub row-scaled : (a b : ℕ) (h k : Rule → ℕ) → ((r : Rule) → In r m → h r * a ≤ k r * b) → overRow m p z h * a ≤ overRow m p z k * b
+  row-scaled a b h k e =
+      rw (mul-comm (overRow m p z h) a, mul-comm (overRow m p z k) b, ← row-mul a h, ← row-mul b k)
+      (row-mono _ _ (λ r i. omega (arith, e r i)))
+
+  -- A sum over states of sums over rules is a sum over rules of sums over states.
+  pub row-swap : (h : Rule → ℕ → ℕ) (n : ℕ) → sumTo (λ t. overRow m p z (λ r. h r t)) n ≡ overRow m p z (λ r. sumTo (h r) n)
+  unfolding overRow
+  row-swap h n =
+      sum-swap (λ r t. bit (fits r p z) * (r .weight * h r t)) m n
+      ∙ sum-cong _ _ m (λ r i. sumTo-mul (bit (fits r p z)) (λ t. r .weight * h r t) n ∙ ap (λ k. bit (fits r p z) * k) (sumTo-mul (r .weight) (h r) n))
+
+  pub row-swap-mul : (h : Rule → ℕ → ℕ) (k : ℕ → ℕ) (n : ℕ)
+      → sumTo (λ t. overRow m p z (λ r. h r t) * k t) n ≡ overRow m p z (λ r. sumTo (λ t. h r t * k t) n)
+  row-swap-mul h k n =
+      ap (λ e. sumTo e n)
+        (fun-ext (λ t. mul-comm (overRow m p z (λ r. h r t)) (k t) ∙ sym (row-mul (k t) (λ r. h r t))
+          ∙ ap (overRow m p z) (fun-ext (λ r. mul-comm (k t) (h r t)))))
+      ∙ row-swap (λ r t. h r t * k t) n

@@ -1,0 +1,184 @@
+-- The laws of sums and of least values.
+use Prim.Native.Nat.{ℕ, zero, suc, _+_, _*_, _≤_, _<_, zero-le, min}
+use native.Mathlib.Nat.{le-refl, le-trans, le-of-eq, add-le-add, add-assoc, add-zero, zero-add, mul-zero, mul-one, one-mul, zero-mul, mul-add, add-mul, min-le-left, min-le-right, eq-zero-or-pos, not-suc-le-zero, eq-or-lt-of-le, le-of-suc-le-suc}
+use native.Mathlib.Omega.{arith}
+use mathlib.Core.Path.{_≡_, refl, sym, ap, ap₂, _∙_, subst, fun-ext}
+use mathlib.Core.Bool.{Bool, true, false}
+use mathlib.Core.List.{List, [], _∷_, _++_, map, flatMap}
+use mathlib.Core.Logic.{_⊎_, inl, inr}
+use lib.Dec.{eqb}
+use borrow.Author.Tests.{eq-eqb, ne-eqb}
+use Rattle.ppda.specs.Sums.{bit, sign, sum, sumTo, leastTo, In}
+
+-- ---- over a list
+
+module _ {A : Type 0} where
+  pub sum-cong : (h k : A → ℕ) (l : List A) → ((x : A) → In x l → h x ≡ k x) → sum h l ≡ sum k l
+  unfolding sum
+  sum-cong h k [] e = refl
+  sum-cong h k (x ∷ l) e = ap₂ _+_ (e x (inl refl)) (sum-cong h k l (λ y i. e y (inr i)))
+
+  pub sum-mono : (h k : A → ℕ) (l : List A) → ((x : A) → In x l → h x ≤ k x) → sum h l ≤ sum k l
+  unfolding sum
+  sum-mono h k [] e = le-refl 0
+  sum-mono h k (x ∷ l) e = add-le-add (e x (inl refl)) (sum-mono h k l (λ y i. e y (inr i)))
+
+  pub sum-zero : (l : List A) → sum (λ x. 0) l ≡ 0
+  unfolding sum
+  sum-zero [] = refl
+  sum-zero (x ∷ l) = rw (zero-add, sum-zero l)
+
+  pub sum-add : (h k : A → ℕ) (l : List A) → sum (λ x. h x + k x) l ≡ sum h l + sum k l
+  unfolding sum
+  sum-add h k [] = refl
+  sum-add h k (x ∷ l) = rw (sum-add h k l) (omega arith)
+
+  pub sum-mul : (c : ℕ) (h : A → ℕ) (l : List A) → sum (λ x. c * h x) l ≡ c * sum h l
+  unfolding sum
+  sum-mul c h [] = sym (mul-zero c)
+  sum-mul c h (x ∷ l) = rw (sum-mul c h l) (omega arith)
+
+  pub sum-append : (h : A → ℕ) (k l : List A) → sum h (k ++ l) ≡ sum h k + sum h l
+  unfolding sum
+  sum-append h [] l = sym (zero-add (sum h l))
+  sum-append h (x ∷ k) l = rw (sum-append h k l) (omega arith)
+
+  -- A sum above 0 has a term above 0.
+  pub sum-positive : (h : A → ℕ) (l : List A) → 0 < sum h l → (x : A) × In x l × (0 < h x)
+  unfolding sum
+  sum-positive h [] pos = absurd (not-suc-le-zero pos)
+  sum-positive h (x ∷ l) pos = go (eq-zero-or-pos (h x)) (λ e. sum-positive h l e)
+    where
+      go : (h x ≡ 0) ⊎ (0 < h x) → (0 < sum h l → (y : A) × In y l × (0 < h y)) → (y : A) × In y (x ∷ l) × (0 < h y)
+      go (inr here) rest = (x, inl refl, here)
+      go (inl none) rest = let y = rest (omega arith) in (y .0, inr (y .1), y .2)
+
+  pub term-le-sum : (h : A → ℕ) (l : List A) (x : A) → In x l → h x ≤ sum h l
+  unfolding sum
+  term-le-sum h (y ∷ l) x (inl e) = rw e (omega arith)
+  term-le-sum h (y ∷ l) x (inr i) = let t : h x ≤ sum h l = term-le-sum h l x i in omega arith
+
+pub sum-map : {A B : Type 0} (h : B → ℕ) (k : A → B) (l : List A) → sum h (map k l) ≡ sum (λ x. h (k x)) l
+unfolding sum
+sum-map h k [] = refl
+sum-map h k (x ∷ l) = ap (λ n. h (k x) + n) (sum-map h k l)
+
+pub sum-flatMap : {A B : Type 0} (h : B → ℕ) (k : A → List B) (l : List A) → sum h (flatMap k l) ≡ sum (λ x. sum h (k x)) l
+unfolding sum flatMap
+sum-flatMap h k [] = refl
+sum-flatMap h k (x ∷ l) = sum-append h (k x) (flatMap k l) ∙ ap (λ n. sum h (k x) + n) (sum-flatMap h k l)
+
+-- ---- over the numbers below n
+
+pub sumTo-cong : (h k : ℕ → ℕ) (n : ℕ) → ((i : ℕ) → i < n → h i ≡ k i) → sumTo h n ≡ sumTo k n
+unfolding sumTo
+sumTo-cong h k zero e = refl
+sumTo-cong h k (suc n) e = ap₂ _+_ (sumTo-cong h k n (λ i b. e i (omega arith))) (e n (omega arith))
+
+pub sumTo-mono : (h k : ℕ → ℕ) (n : ℕ) → ((i : ℕ) → i < n → h i ≤ k i) → sumTo h n ≤ sumTo k n
+unfolding sumTo
+sumTo-mono h k zero e = le-refl 0
+sumTo-mono h k (suc n) e = add-le-add (sumTo-mono h k n (λ i b. e i (omega arith))) (e n (omega arith))
+
+pub sumTo-zero : (n : ℕ) → sumTo (λ i. 0) n ≡ 0
+unfolding sumTo
+sumTo-zero zero = refl
+sumTo-zero (suc n) = rw (sumTo-zero n)
+
+pub sumTo-add : (h k : ℕ → ℕ) (n : ℕ) → sumTo (λ i. h i + k i) n ≡ sumTo h n + sumTo k n
+unfolding sumTo
+sumTo-add h k zero = refl
+sumTo-add h k (suc n) = rw (sumTo-add h k n) (omega arith)
+
+pub sumTo-mul : (c : ℕ) (h : ℕ → ℕ) (n : ℕ) → sumTo (λ i. c * h i) n ≡ c * sumTo h n
+unfolding sumTo
+sumTo-mul c h zero = sym (mul-zero c)
+sumTo-mul c h (suc n) = rw (sumTo-mul c h n) (omega arith)
+
+-- Sums on two scales compare as their terms do.
+pub sumTo-scaled : (a b : ℕ) (h k : ℕ → ℕ) (n : ℕ) → ((i : ℕ) → i < n → h i * a ≤ k i * b) → sumTo h n * a ≤ sumTo k n * b
+unfolding sumTo
+sumTo-scaled a b h k zero e = simp zero-mul (le-refl 0)
+sumTo-scaled a b h k (suc n) e =
+    let t : sumTo h n * a ≤ sumTo k n * b = sumTo-scaled a b h k n (λ i c. e i (omega arith)) in
+    omega (arith, e n (omega arith))
+
+-- The first term apart.
+pub sumTo-front : (h : ℕ → ℕ) (n : ℕ) → sumTo h (suc n) ≡ h 0 + sumTo (λ i. h (suc i)) n
+unfolding sumTo
+sumTo-front h zero = omega arith
+sumTo-front h (suc n) = rw (sumTo-front h n) (omega arith)
+
+pub sumTo-positive : (h : ℕ → ℕ) (n : ℕ) → 0 < sumTo h n → (i : ℕ) × (i < n) × (0 < h i)
+unfolding sumTo
+sumTo-positive h zero pos = absurd (not-suc-le-zero pos)
+sumTo-positive h (suc n) pos = go (eq-zero-or-pos (h n)) (λ e. sumTo-positive h n e)
+  where
+    go : (h n ≡ 0) ⊎ (0 < h n) → (0 < sumTo h n → (i : ℕ) × (i < n) × (0 < h i)) → (i : ℕ) × (i < suc n) × (0 < h i)
+    go (inr here) rest = (n, le-refl (suc n), here)
+    go (inl none) rest = let y = rest (omega arith) in (y .0, omega (arith, y .1), y .2)
+
+pub term-le-sumTo : (h : ℕ → ℕ) (n i : ℕ) → i < n → h i ≤ sumTo h n
+unfolding sumTo
+term-le-sumTo h zero i b = absurd (not-suc-le-zero b)
+term-le-sumTo h (suc n) i b = go (eq-or-lt-of-le (le-of-suc-le-suc b)) (λ c. term-le-sumTo h n i c)
+  where
+    go : (i ≡ n) ⊎ (i < n) → (i < n → h i ≤ sumTo h n) → h i ≤ sumTo h n + h n
+    go (inl e) rest = rw e (omega arith)
+    go (inr c) rest = let t : h i ≤ sumTo h n = rest c in omega arith
+
+-- A sum in which only the term at p can differ from 0.
+pub sumTo-pick : (h : ℕ → ℕ) (p n : ℕ) → p < n → sumTo (λ i. bit (eqb p i) * h i) n ≡ h p
+unfolding sumTo
+sumTo-pick h p zero b = absurd (not-suc-le-zero b)
+sumTo-pick h p (suc n) b = go (eq-or-lt-of-le (le-of-suc-le-suc b)) (λ c. sumTo-pick h p n c)
+  where
+    below : (k : ℕ) → k ≤ p → sumTo (λ i. bit (eqb p i) * h i) k ≡ 0
+    below k c = sumTo-cong (λ i. bit (eqb p i) * h i) (λ i. 0) k (λ i d. rw (ne-eqb p i (λ e. omega arith)) (zero-mul (h i))) ∙ sumTo-zero k
+
+    go : (p ≡ n) ⊎ (p < n) → (p < n → sumTo (λ i. bit (eqb p i) * h i) n ≡ h p)
+      → sumTo (λ i. bit (eqb p i) * h i) n + bit (eqb p n) * h n ≡ h p
+    go (inl e) rest = rw (below n (omega arith), eq-eqb p n e, e) (omega arith)
+    go (inr c) rest = rw (rest c, ne-eqb p n (λ e. omega arith)) (omega arith)
+
+-- A sum over a list of sums is a sum of sums over the list.
+pub sum-swap : {A : Type 0} (h : A → ℕ → ℕ) (l : List A) (n : ℕ) → sumTo (λ i. sum (λ x. h x i) l) n ≡ sum (λ x. sumTo (h x) n) l
+unfolding sum sumTo
+sum-swap h [] n = sumTo-zero n
+sum-swap h (x ∷ l) n = sumTo-add (h x) (λ i. sum (λ y. h y i) l) n ∙ ap (λ k. sumTo (h x) n + k) (sum-swap h l n)
+
+pub sumTo-swap : (h : ℕ → ℕ → ℕ) (k n : ℕ) → sumTo (λ i. sumTo (λ j. h j i) k) n ≡ sumTo (λ j. sumTo (h j) n) k
+unfolding sumTo
+sumTo-swap h zero n = sumTo-zero n
+sumTo-swap h (suc k) n = sumTo-add (λ i. sumTo (λ j. h j i) k) (h k) n ∙ ap (λ c. c + sumTo (h k) n) (sumTo-swap h k n)
+
+-- ---- signs and least values
+
+pub sign-positive : (n : ℕ) → 0 < n → sign n ≡ 1
+unfolding sign
+sign-positive zero pos = absurd (not-suc-le-zero pos)
+sign-positive (suc n) pos = refl
+
+pub positive-of-sign : (n : ℕ) → 0 < sign n → 0 < n
+unfolding sign
+positive-of-sign zero pos = pos
+positive-of-sign (suc n) pos = omega arith
+
+pub sign-le-one : (n : ℕ) → sign n ≤ 1
+unfolding sign
+sign-le-one zero = omega arith
+sign-le-one (suc n) = le-refl 1
+
+pub leastTo-le-top : (top : ℕ) (h : ℕ → ℕ) (n : ℕ) → leastTo top h n ≤ top
+unfolding leastTo
+leastTo-le-top top h zero = le-refl top
+leastTo-le-top top h (suc n) = let t : leastTo top h n ≤ top = leastTo-le-top top h n in omega arith
+
+pub leastTo-le-term : (top : ℕ) (h : ℕ → ℕ) (n i : ℕ) → i < n → leastTo top h n ≤ h i
+unfolding leastTo
+leastTo-le-term top h zero i b = absurd (not-suc-le-zero b)
+leastTo-le-term top h (suc n) i b = go (eq-or-lt-of-le (le-of-suc-le-suc b)) (λ c. leastTo-le-term top h n i c)
+  where
+    go : (i ≡ n) ⊎ (i < n) → (i < n → leastTo top h n ≤ h i) → min (leastTo top h n) (h n) ≤ h i
+    go (inl e) rest = rw e (omega arith)
+    go (inr c) rest = let t : leastTo top h n ≤ h i = rest c in omega arith

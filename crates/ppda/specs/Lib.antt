@@ -1,0 +1,11 @@
+-- What a reader must believe, in the order of document 01: sums, rules, runs, the chances and means summed over runs,
+-- the equations, live entries, the margin, and what a certificate claims and is promised. Nothing here knows bytes.
+pub mod Sums
+pub mod Rules
+pub mod Runs
+pub mod Chances
+pub mod Equations
+pub mod Live
+pub mod Margin
+pub mod Bounds
+pub mod W

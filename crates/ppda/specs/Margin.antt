@@ -1,0 +1,34 @@
+-- The margin of a certificate's uppers (document 01, "Deliveries"; "share" and "margin" are its terms).
+use Prim.Native.Nat.{ℕ, zero, suc, _+_, _-_, _*_, _/_, _^_}
+use mathlib.Core.List.{List}
+use Rattle.ppda.specs.Sums.{leastTo}
+use Rattle.ppda.specs.Rules.{Rule}
+use Rattle.ppda.specs.Equations.{Vector, f}
+use Rattle.ppda.specs.Live.{alive}
+
+-- The share (u − f(u)) / u in 1/2^20, rounded down, for u in 1/2^20 and f(u) = y in 1/2^56.
+unfoldable pub share : ℕ → ℕ → ℕ
+share u y = (u * 2 ^ 36 - y) * 2 ^ 20 / (u * 2 ^ 36)
+
+-- An entry's part in the margin: the share of a live entry. A dead one leaves the margin as it is.
+unfoldable pub shareAt : ℕ → ℕ → ℕ → ℕ
+shareAt zero u y = 2 ^ 20
+shareAt (suc a) u y = share u y
+
+-- The margin: the least share over the live entries, and 2^20 where nothing is live.
+unfoldable pub margin : List Rule → ℕ → ℕ → Vector → ℕ
+margin m s g u =
+    leastTo (2 ^ 20)
+    (λ p. leastTo (2 ^ 20) (λ z. leastTo (2 ^ 20) (λ q. shareAt (alive m s g p z q) (u p z q) (f m s (2 ^ 20) u p z q)) s) g) s
+
+-- The m of mission point 3 for a margin: margin/2^20, or 1/2^57 where the margin is 0. It is part/whole, and 1 − m is kept/whole.
+abbrev pub part : ℕ → ℕ
+part zero = 1
+part (suc a) = suc a
+
+abbrev pub whole : ℕ → ℕ
+whole zero = 2 ^ 57
+whole (suc a) = 2 ^ 20
+
+unfoldable pub kept : ℕ → ℕ
+kept a = whole a - part a
