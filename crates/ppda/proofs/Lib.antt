@@ -5,3 +5,7 @@ pub mod Steps
 pub mod Stacks
 pub mod Equations
 pub mod Upper
+pub mod Live
+pub mod Margin
+pub mod Lower
+pub mod Mean

@@ -34,6 +34,11 @@ module _ (m : List Rule) (p z : ℕ) where
       rw (mul-comm (overRow m p z h) a, mul-comm (overRow m p z k) b, ← row-mul a h, ← row-mul b k)
       (row-mono _ _ (λ r i. omega (arith, e r i)))
 
+  -- A sum of terms that are each at most a combination of two others.
+  pub row-combined : (a b : ℕ) (h k l : Rule → ℕ) → ((r : Rule) → In r m → l r ≤ a * h r + b * k r)
+      → overRow m p z l ≤ a * overRow m p z h + b * overRow m p z k
+  row-combined a b h k l e = rw (← row-mul a h, ← row-mul b k, ← row-add (λ r. a * h r) (λ r. b * k r)) (row-mono l _ e)
+
   -- A sum over states of sums over rules is a sum over rules of sums over states.
   pub row-swap : (h : Rule → ℕ → ℕ) (n : ℕ) → sumTo (λ t. overRow m p z (λ r. h r t)) n ≡ overRow m p z (λ r. sumTo (h r) n)
   unfolding overRow

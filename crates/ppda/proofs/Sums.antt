@@ -103,6 +103,12 @@ sumTo-scaled a b h k (suc n) e =
     let t : sumTo h n * a ≤ sumTo k n * b = sumTo-scaled a b h k n (λ i c. e i (omega arith)) in
     omega (arith, e n (omega arith))
 
+-- A sum of terms that are each at most a combination of two others.
+pub sumTo-combined : (a b : ℕ) (h k l : ℕ → ℕ) (n : ℕ) → ((i : ℕ) → i < n → l i ≤ a * h i + b * k i)
+    → sumTo l n ≤ a * sumTo h n + b * sumTo k n
+sumTo-combined a b h k l n e =
+    rw (← sumTo-mul a h n, ← sumTo-mul b k n, ← sumTo-add (λ i. a * h i) (λ i. b * k i) n) (sumTo-mono l _ n e)
+
 -- The first term apart.
 pub sumTo-front : (h : ℕ → ℕ) (n : ℕ) → sumTo h (suc n) ≡ h 0 + sumTo (λ i. h (suc i)) n
 unfolding sumTo

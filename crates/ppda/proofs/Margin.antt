@@ -1,0 +1,68 @@
+-- The margin of the uppers bounds f(u) by kept/whole times u at every entry, and kept is below whole.
+use Prim.Native.Nat.{ℕ, zero, suc, _+_, _-_, _*_, _/_, _^_, _≤_, _<_, zero-le}
+use native.Mathlib.Nat.{le-trans, le-refl, le-div-iff-mul-le, zero-mul}
+use native.Mathlib.Omega.{arith}
+use mathlib.Core.Path.{_≡_, ap}
+use mathlib.Core.List.{List}
+use mathlib.Core.Logic.{_⊎_, inl, inr}
+use lib.Dec.{lit<, lit≤}
+use Rattle.ppda.specs.Sums.{leastTo}
+use Rattle.ppda.specs.Rules.{Rule}
+use Rattle.ppda.specs.Equations.{Vector, f}
+use Rattle.ppda.specs.Live.{alive}
+use Rattle.ppda.specs.Margin.{share, shareAt, margin, part, whole, kept}
+use Rattle.ppda.specs.Bounds.{Uppers, Lowers, LowerAt}
+use Rattle.ppda.proofs.Sums.{leastTo-le-top, leastTo-le-term}
+use Rattle.ppda.proofs.Live.{alive-or-dead}
+
+-- The m of point 3 is never 0: what is taken from the lower vanishes as k grows.
+pub kept-below-whole : (a : ℕ) → kept a < whole a
+unfolding kept
+kept-below-whole zero = lit< tt
+kept-below-whole (suc a) = omega arith
+
+module _ (m : List Rule) (s g : ℕ) (u : Vector) where
+  pub margin-le-top : margin m s g u ≤ 2 ^ 20
+  unfolding margin
+  margin-le-top = leastTo-le-top (2 ^ 20) _ s
+
+  pub margin-le-share : (p z q : ℕ) → p < s → z < g → q < s
+      → margin m s g u ≤ shareAt (alive m s g p z q) (u p z q) (f m s (2 ^ 20) u p z q)
+  unfolding margin
+  margin-le-share p z q hp hz hq =
+      le-trans (leastTo-le-term (2 ^ 20) _ s p hp) (le-trans (leastTo-le-term (2 ^ 20) _ g z hz) (leastTo-le-term (2 ^ 20) _ s q hq))
+
+-- x is u in 1/2^56, y is f(u). A share of at least a/2^20 leaves y at most the rest of x.
+of-share : (a u y : ℕ) → 0 < u * 2 ^ 36 → a ≤ share u y → y ≤ u * 2 ^ 36 → y * 2 ^ 20 + a * (u * 2 ^ 36) ≤ u * 2 ^ 36 * 2 ^ 20
+unfolding share
+of-share a u y pos h le =
+    let t : a * (u * 2 ^ 36) ≤ (u * 2 ^ 36 - y) * 2 ^ 20 = le-div-iff-mul-le {k = u * 2 ^ 36} {x = a} {y = (u * 2 ^ 36 - y) * 2 ^ 20} pos .0 h in
+    omega arith
+
+rest : (w a k x y : ℕ) → k + a ≡ w → y * w + a * x ≤ x * w → y * w ≤ k * x
+rest w a k x y e h = omega (arith, ap (λ n. x * n) e)
+
+live-keeps : (a u y : ℕ) → a ≤ 2 ^ 20 → a ≤ share u y → y < u * 2 ^ 36 → u ≤ 2097152 → y * whole a ≤ kept a * (u * 2 ^ 36)
+unfolding kept
+live-keeps zero u y top h strict range = omega arith
+live-keeps (suc a) u y top h strict range =
+    rest (2 ^ 20) (suc a) (2 ^ 20 - suc a) (u * 2 ^ 36) y (omega arith) (of-share (suc a) u y (omega arith) h (omega arith))
+
+dead-keeps : (a u y : ℕ) → u ≡ 0 → y ≤ u * 2 ^ 36 → y * whole a ≤ kept a * (u * 2 ^ 36)
+dead-keeps a u y none h = let zero-y : y ≡ 0 = omega arith in rw (zero-y, zero-mul) zero-le
+
+-- f(u) ≤ (1 − m)·u at every entry.
+pub f-le-kept : (m : List Rule) (s g : ℕ) (u l : Vector) → Uppers m s g u → Lowers m s g u l → (p z q : ℕ) → p < s → z < g → q < s
+    → f m s (2 ^ 20) u p z q * whole (margin m s g u) ≤ kept (margin m s g u) * (u p z q * 2 ^ 36)
+unfolding shareAt
+f-le-kept m s g u l uppers lowers p z q hp hz hq = go (alive-or-dead m s g p z q)
+  where
+    this : LowerAt m s g u l p z q
+    this = lowers p z q hp hz hq
+
+    go : (alive m s g p z q ≡ 1) ⊎ (alive m s g p z q ≡ 0)
+        → f m s (2 ^ 20) u p z q * whole (margin m s g u) ≤ kept (margin m s g u) * (u p z q * 2 ^ 36)
+    go (inl live) =
+        live-keeps (margin m s g u) (u p z q) (f m s (2 ^ 20) u p z q) (margin-le-top m s g u)
+        (rw live at (margin-le-share m s g u p z q hp hz hq)) (this .strict live) (this .range)
+    go (inr dead) = dead-keeps (margin m s g u) (u p z q) (f m s (2 ^ 20) u p z q) (this .dead dead) (uppers p z q hp hz hq)
