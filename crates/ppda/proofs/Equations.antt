@@ -1,19 +1,17 @@
 -- The laws of f: it grows with its vector, whatever the two scales, and it lies between chances.
-use Prim.Native.Nat.{ℕ, zero, suc, _+_, _*_, _^_, _≤_, _<_, zero-le}
-use native.Mathlib.Nat.{le-refl, le-trans, le-of-eq, mul-le-mul, mul-le-mul-left, mul-le-mul-right, mul-comm, mul-assoc}
+use Prim.Native.Nat.{ℕ, suc, _+_, _*_, _^_, _≤_, _<_}
+use native.Mathlib.Nat.{le-refl, le-of-eq, mul-le-mul, mul-le-mul-left}
 use native.Mathlib.Omega.{arith}
-use mathlib.Core.Path.{_≡_, refl, sym, ap, _∙_, fun-ext}
-use mathlib.Core.List.{List, [], _∷_, _++_, append-nil}
-use lib.Dec.{eqb}
+use mathlib.Core.List.{List, [], _∷_, _++_}
 use lib.Pow.{pow-add}
-use Rattle.ppda.specs.Sums.{bit, sumTo, In}
-use Rattle.ppda.specs.Rules.{Rule, Push, nothing, one, two, overRow, pushed, Below, IsRule, IsModel}
+use Rattle.ppda.specs.Sums.{In}
+use Rattle.ppda.specs.Rules.{Rule, Push, nothing, one, two, pushed, Below, IsModel}
 use Rattle.ppda.specs.Chances.{chanceFrom, chance}
 use Rattle.ppda.specs.Equations.{Vector, through, f}
 use Rattle.ppda.proofs.Sums.{sumTo-scaled}
 use Rattle.ppda.proofs.Rows.{row-mono, row-mul, row-scaled}
 use Rattle.ppda.proofs.Steps.{chance-empty, chance-step}
-use Rattle.ppda.proofs.Stacks.{between, chance-grows-by, chance-split, chance-join}
+use Rattle.ppda.proofs.Stacks.{followed, chance-grows-by, chance-split, chance-join}
 
 module _ (m : List Rule) (s g : ℕ) (model : IsModel s g m) where
   -- v/d ≤ u/e at every entry.
@@ -41,7 +39,7 @@ module _ (m : List Rule) (s g : ℕ) (model : IsModel s g m) where
 
   -- One step more than n is at most f of n steps.
   pub chance-step-le-f : (n p z q : ℕ) → 65536 ^ n * chance m (suc n) p z q ≤ f m s (65536 ^ n) (chance m n) p z q
-  unfolding f between
+  unfolding f followed
   chance-step-le-f n p z q =
       simp (chance-step m, ← row-mul m p z) (row-mono m p z _ _ (λ r i. each (r .target) (r .push) (targets r i)))
     where
@@ -52,7 +50,7 @@ module _ (m : List Rule) (s g : ℕ) (model : IsModel s g m) where
 
   -- f of n steps is at most 2 n + 1 steps.
   pub f-le-chance : (n p z q : ℕ) → f m s (65536 ^ n) (chance m n) p z q ≤ chance m (suc (n + n)) p z q
-  unfolding f between
+  unfolding f followed
   f-le-chance n p z q =
       simp (chance-step m) (row-mono m p z _ _ (λ r i. each (r .target) (r .push) (targets r i)))
     where

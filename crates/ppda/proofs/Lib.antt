@@ -1,11 +1,15 @@
 -- The theorems: mission point 3 over lists of rules and vectors.
 pub mod Sums
+pub mod Lists
 pub mod Rows
 pub mod Steps
 pub mod Stacks
 pub mod Equations
 pub mod Upper
+pub mod Marks
 pub mod Live
 pub mod Margin
 pub mod Lower
 pub mod Mean
+pub mod Bounds
+pub mod W

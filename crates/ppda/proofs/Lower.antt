@@ -1,24 +1,22 @@
 -- Mission point 3, the lowers (theorem c; after document 001, Theorem 5): every chance within 2^k − 1 steps is at least the lower
 -- less (1 − m)^k times the upper. With c = 1 − m the stronger l ≤ (1 − c^k)·chance + c^k·u goes by induction on k: l ≤ f(l), f is convex
 -- between the chance and u, f of the chance within n steps is at most the chance within 2n + 1, and f(u) ≤ c·u.
-use Prim.Native.Nat.{ℕ, zero, suc, _+_, _-_, _*_, _^_, _≤_, _<_, zero-le}
-use native.Mathlib.Nat.{add-le-add, le-refl, le-trans, le-of-eq, le-dest, le-intro, le-of-mul-le-mul-left, le-of-lt, mul-le-mul, mul-le-mul-left, mul-le-mul-right, mul-pos, mul-comm, mul-assoc, one-le-pow, zero-mul, mul-one, one-mul, pow-zero, pow-succ', zero-add, pow-le-pow-left, add-sub-of-le}
+use Prim.Native.Nat.{ℕ, zero, suc, _+_, _*_, _^_, _≤_, _<_}
+use native.Mathlib.Nat.{add-le-add, le-refl, le-trans, le-of-eq, le-dest, le-intro, le-of-mul-le-mul-left, le-of-lt, mul-le-mul, mul-le-mul-left, mul-le-mul-right, mul-pos, one-le-pow, pow-zero, pow-succ', zero-add}
 use native.Mathlib.Omega.{arith}
-use mathlib.Core.Path.{_≡_, refl, sym, ap, _∙_, subst}
-use mathlib.Core.List.{List, []}
+use mathlib.Core.Path.{_≡_, refl, ap}
+use mathlib.Core.List.{List}
 use lib.Dec.{lit<}
 use lib.Pow.{pow-add, pow-pos}
-use Rattle.ppda.specs.Sums.{sumTo, In}
-use Rattle.ppda.specs.Rules.{Rule, Push, nothing, one, two, overRow, pushed, Below, IsModel}
+use Rattle.ppda.specs.Rules.{Rule, Push, nothing, one, two, pushed, Below, IsModel}
 use Rattle.ppda.specs.Chances.{chance}
 use Rattle.ppda.specs.Equations.{Vector, through, f}
 use Rattle.ppda.specs.Margin.{margin, whole, kept}
 use Rattle.ppda.specs.Bounds.{Uppers, Lowers, LowerHolds, stepsOf}
 use Rattle.ppda.proofs.Sums.{sumTo-combined}
 use Rattle.ppda.proofs.Rows.{row-combined}
-use Rattle.ppda.proofs.Steps.{chance-zero}
 use Rattle.ppda.proofs.Equations.{Under, f-grows, f-le-chance}
-use Rattle.ppda.proofs.Upper.{power-positive, upper-holds}
+use Rattle.ppda.proofs.Upper.{upper-holds}
 use Rattle.ppda.proofs.Margin.{f-le-kept, kept-below-whole}
 
 -- ---- f is convex between v ≤ u
@@ -42,20 +40,20 @@ module _ (m : List Rule) (s g : ℕ) (model : IsModel s g m) where
   module _ (b c e d : ℕ) (v u : Vector) (le : Under m s g model e d v u) where
     through-convex : (r : ℕ) (a : Push) (q : ℕ) → r < s → Below g (pushed a) → q < s
         → through s ((b + c) * (e * d)) (mix b c e d v u) r a q
-          ≤ (b + c) * b * (d * d) * through s e v r a q + (b + c) * c * (e * e) * through s d u r a q
+        ≤ (b + c) * b * (d * d) * through s e v r a q + (b + c) * c * (e * e) * through s d u r a q
     unfolding mix
     through-convex r nothing q hr ha hq = le-of-eq (omega arith)
     through-convex r (one y) q hr ha hq = le-of-eq (omega arith)
     through-convex r (two y x) q hr ha hq =
         sumTo-combined ((b + c) * b * (d * d)) ((b + c) * c * (e * e)) _ _ _ s
         (λ t ht. le-trans
-          (convex b c (v r y t * d) (v t x q * d) (u r y t * e) (u t x q * e) (le r y t hr (ha .0) ht) (le t x q ht (ha .1 .0) hq))
-          (le-of-eq (omega arith)))
+        (convex b c (v r y t * d) (v t x q * d) (u r y t * e) (u t x q * e) (le r y t hr (ha .0) ht) (le t x q ht (ha .1 .0) hq))
+        (le-of-eq (omega arith)))
 
     -- f((b·v + c·u)/(b + c)) ≤ (b·f(v) + c·f(u))/(b + c).
     f-convex : (p z q : ℕ) → q < s
         → f m s ((b + c) * (e * d)) (mix b c e d v u) p z q
-          ≤ (b + c) * b * (d * d) * f m s e v p z q + (b + c) * c * (e * e) * f m s d u p z q
+        ≤ (b + c) * b * (d * d) * f m s e v p z q + (b + c) * c * (e * e) * f m s d u p z q
     unfolding f
     f-convex p z q hq =
         row-combined m p z ((b + c) * b * (d * d)) ((b + c) * c * (e * e)) _ _ _
@@ -106,8 +104,8 @@ module _ (m : List Rule) (s g : ℕ) (u l : Vector) (model : IsModel s g m) (upp
   one-more k b b′ e le between p z q hp hz hq =
       rw (scale-suc k, steps-suc k)
       (simp pow-succ'
-        (le-trans (round b (c ^ k) (h ^ k) (scale * scale) (2 ^ 20) (l p z q) (u p z q) fp fu h c (lit< tt) main (by-margin p z q hp hz hq))
-          (add-le-add (mul-le-mul le (mul-le-mul-right (2 ^ 20) (f-le-chance m s g model (stepsOf k) p z q))) (le-refl _))))
+      (le-trans (round b (c ^ k) (h ^ k) (scale * scale) (2 ^ 20) (l p z q) (u p z q) fp fu h c (lit< tt) main (by-margin p z q hp hz hq))
+      (add-le-add (mul-le-mul le (mul-le-mul-right (2 ^ 20) (f-le-chance m s g model (stepsOf k) p z q))) (le-refl _))))
     where
       scale : ℕ
       scale = 65536 ^ stepsOf k
@@ -133,8 +131,8 @@ module _ (m : List Rule) (s g : ℕ) (u l : Vector) (model : IsModel s g m) (upp
       main : l p z q * (2 ^ 20 * (h ^ k * (65536 * (scale * scale)))) ≤ b * (2 ^ 20 * 2 ^ 20) * fp + c ^ k * (scale * scale) * fu
       main =
           lower-le-mix b (c ^ k) (h ^ k) scale (2 ^ 20) (l p z q) (f m s (2 ^ 20) l p z q)
-            (f m s (h ^ k * (scale * 2 ^ 20)) mixed p z q) fp fu (lit< tt) (one-le-pow k h (omega arith)) (lowers p z q hp hz hq .lower)
-            (f-grows m s g model (2 ^ 20) (h ^ k * (scale * 2 ^ 20)) l mixed below p z q hq) fmix
+          (f m s (h ^ k * (scale * 2 ^ 20)) mixed p z q) fp fu (lit< tt) (one-le-pow k h (omega arith)) (lowers p z q hp hz hq .lower)
+          (f-grows m s g model (2 ^ 20) (h ^ k * (scale * 2 ^ 20)) l mixed below p z q hq) fmix
 
   lower-between : (k : ℕ) → (b : ℕ) × (b + c ^ k ≡ h ^ k) × Between m s g u l h c k b
   unfolding stepsOf
@@ -153,6 +151,6 @@ pub lower-holds : (m : List Rule) (s g : ℕ) (u l : Vector) → IsModel s g m �
 lower-holds m s g u l model uppers lowers k p z q hp hz hq =
     let a = margin m s g u in
     let (b, e, between) =
-        lower-between m s g u l model uppers lowers (whole a) (kept a) (kept-below-whole a) (f-le-kept m s g u l uppers lowers) k in
+    lower-between m s g u l model uppers lowers (whole a) (kept a) (kept-below-whole a) (f-le-kept m s g u l uppers lowers) k in
     drop-weight b (whole a ^ k) (kept a ^ k) (l p z q) (65536 ^ stepsOf k) (2 ^ 20) (chance m (stepsOf k) p z q) (u p z q)
-      (le-intro b (kept a ^ k) e) (between p z q hp hz hq)
+    (le-intro b (kept a ^ k) e) (between p z q hp hz hq)

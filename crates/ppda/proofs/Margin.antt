@@ -1,19 +1,18 @@
 -- The margin of the uppers bounds f(u) by kept/whole times u at every entry, and kept is below whole.
-use Prim.Native.Nat.{ℕ, zero, suc, _+_, _-_, _*_, _/_, _^_, _≤_, _<_, zero-le}
-use native.Mathlib.Nat.{le-trans, le-refl, le-div-iff-mul-le, zero-mul}
+use Prim.Native.Nat.{ℕ, zero, suc, _+_, _-_, _*_, _^_, _≤_, _<_, zero-le}
+use native.Mathlib.Nat.{le-trans, le-div-iff-mul-le, zero-mul}
 use native.Mathlib.Omega.{arith}
 use mathlib.Core.Path.{_≡_, ap}
 use mathlib.Core.List.{List}
 use mathlib.Core.Logic.{_⊎_, inl, inr}
-use lib.Dec.{lit<, lit≤}
-use Rattle.ppda.specs.Sums.{leastTo}
+use lib.Dec.{lit<}
 use Rattle.ppda.specs.Rules.{Rule}
 use Rattle.ppda.specs.Equations.{Vector, f}
 use Rattle.ppda.specs.Live.{alive}
-use Rattle.ppda.specs.Margin.{share, shareAt, margin, part, whole, kept}
+use Rattle.ppda.specs.Margin.{share, shareAt, margin, whole, kept}
 use Rattle.ppda.specs.Bounds.{Uppers, Lowers, LowerAt}
 use Rattle.ppda.proofs.Sums.{leastTo-le-top, leastTo-le-term}
-use Rattle.ppda.proofs.Live.{alive-or-dead}
+use Rattle.ppda.proofs.Marks.{alive-or-dead}
 
 -- The m of point 3 is never 0: what is taken from the lower vanishes as k grows.
 pub kept-below-whole : (a : ℕ) → kept a < whole a

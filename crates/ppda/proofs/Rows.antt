@@ -1,10 +1,10 @@
 -- The laws of sums over the rules of a row.
-use Prim.Native.Nat.{ℕ, zero, suc, _+_, _*_, _≤_, _<_}
-use native.Mathlib.Nat.{mul-le-mul-left, mul-one, mul-comm, mul-left-comm}
+use Prim.Native.Nat.{ℕ, _+_, _*_, _≤_}
+use native.Mathlib.Nat.{mul-le-mul-left, mul-one, mul-comm}
 use native.Mathlib.Omega.{arith}
-use mathlib.Core.Path.{_≡_, refl, sym, ap, _∙_, fun-ext}
-use mathlib.Core.List.{List, [], _∷_}
-use Rattle.ppda.specs.Sums.{bit, sum, sumTo, In}
+use mathlib.Core.Path.{_≡_, sym, ap, _∙_, fun-ext}
+use mathlib.Core.List.{List}
+use Rattle.ppda.specs.Sums.{bit, sumTo, In}
 use Rattle.ppda.specs.Rules.{Rule, fits, overRow}
 use Rattle.ppda.proofs.Sums.{sum-cong, sum-mono, sum-add, sum-mul, sum-swap, sumTo-mul}
 
@@ -50,6 +50,6 @@ module _ (m : List Rule) (p z : ℕ) where
       → sumTo (λ t. overRow m p z (λ r. h r t) * k t) n ≡ overRow m p z (λ r. sumTo (λ t. h r t * k t) n)
   row-swap-mul h k n =
       ap (λ e. sumTo e n)
-        (fun-ext (λ t. mul-comm (overRow m p z (λ r. h r t)) (k t) ∙ sym (row-mul (k t) (λ r. h r t))
-          ∙ ap (overRow m p z) (fun-ext (λ r. mul-comm (k t) (h r t)))))
+      (fun-ext (λ t. mul-comm (overRow m p z (λ r. h r t)) (k t) ∙ sym (row-mul (k t) (λ r. h r t))
+      ∙ ap (overRow m p z) (fun-ext (λ r. mul-comm (k t) (h r t)))))
       ∙ row-swap (λ r t. h r t * k t) n

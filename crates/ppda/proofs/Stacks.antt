@@ -1,17 +1,20 @@
 -- The chance of emptying one stack over another: it is at most, and within more steps at least, the sum over the state between of
 -- the product of the two chances.
 use Prim.Native.Nat.{ℕ, zero, suc, _+_, _*_, _^_, _≤_, _<_, zero-le}
-use native.Mathlib.Nat.{le-refl, le-trans, le-of-eq, zero-add, zero-mul, mul-zero, one-mul, mul-assoc, mul-left-comm, suc-add, pow-zero, pow-succ', mul-le-mul, mul-le-mul-left, mul-le-mul-right}
+use native.Mathlib.Nat.{le-refl, le-trans, le-of-eq, zero-add, zero-mul, mul-zero, one-mul, mul-assoc, mul-left-comm, suc-add, pow-zero, pow-succ', mul-le-mul-left}
 use native.Mathlib.Omega.{arith}
-use mathlib.Core.Path.{_≡_, refl, sym, ap, _∙_, fun-ext}
+use mathlib.Core.Path.{_≡_, sym, ap, _∙_, fun-ext}
 use mathlib.Core.List.{List, [], _∷_, _++_, append-assoc}
-use lib.Dec.{eqb}
-use Rattle.ppda.specs.Sums.{bit, sum, sumTo, In}
-use Rattle.ppda.specs.Rules.{Rule, overRow, pushed, IsModel}
+use Rattle.ppda.specs.Sums.{sumTo, In}
+use Rattle.ppda.specs.Rules.{Rule, overRow, pushed, Below}
 use Rattle.ppda.specs.Chances.{chanceFrom}
-use Rattle.ppda.proofs.Sums.{sumTo-cong, sumTo-mono, sumTo-zero, sumTo-mul, sumTo-pick}
-use Rattle.ppda.proofs.Rows.{row-mono, row-cong, row-mul, row-swap-mul}
+use Rattle.ppda.proofs.Sums.{sumTo-mono, sumTo-zero, sumTo-mul, sumTo-pick}
+use Rattle.ppda.proofs.Rows.{row-mono, row-mul, row-swap-mul}
 use Rattle.ppda.proofs.Steps.{chance-zero, chance-empty, chance-step}
+
+pub below-append : (g : ℕ) (α β : List ℕ) → Below g α → Below g β → Below g (α ++ β)
+below-append g [] β a b = b
+below-append g (z ∷ α) β a b = (a .0, below-append g α β (a .1) b)
 
 module _ (m : List Rule) where
   grows-empty : (n p q : ℕ) → 65536 * chanceFrom m n p [] q ≤ chanceFrom m (suc n) p [] q
@@ -31,38 +34,41 @@ module _ (m : List Rule) where
       simp (pow-succ', suc-add, mul-assoc) (le-trans (mul-le-mul-left 65536 (chance-grows-by k n p σ q)) (chance-grows (k + n) p σ q))
 
 module _ (m : List Rule) (s : ℕ) where
-  -- From p with α over β: emptying α in t, and β from t.
-  unfoldable pub between : ℕ → ℕ → ℕ → List ℕ → List ℕ → ℕ → ℕ
-  between n k p α β q = sumTo (λ t. chanceFrom m n p α t * chanceFrom m k t β q) s
+  -- From p with the stack α: emptying α within n steps in some state t below s, times k t.
+  unfoldable pub followed : ℕ → ℕ → List ℕ → (ℕ → ℕ) → ℕ
+  followed n p α k = sumTo (λ t. chanceFrom m n p α t * k t) s
 
-  between-empty : (n k p : ℕ) (β : List ℕ) (q : ℕ) → p < s → between n k p [] β q ≡ 65536 ^ n * chanceFrom m k p β q
-  unfolding between
-  between-empty n k p β q here =
-      ap (λ h. sumTo h s) (fun-ext (λ t. ap (λ c. c * chanceFrom m k t β q) (chance-empty m n p t) ∙ mul-assoc (65536 ^ n) _ _))
+  pub followed-zero : (p z : ℕ) (α : List ℕ) (k : ℕ → ℕ) → followed 0 p (z ∷ α) k ≡ 0
+  unfolding followed
+  followed-zero p z α k =
+      ap (λ h. sumTo h s) (fun-ext (λ t. ap (λ c. c * k t) (chance-zero m p t z α) ∙ zero-mul (k t))) ∙ sumTo-zero s
+
+  pub followed-empty : (n p : ℕ) (k : ℕ → ℕ) → p < s → followed n p [] k ≡ 65536 ^ n * k p
+  unfolding followed
+  followed-empty n p k here =
+      ap (λ h. sumTo h s) (fun-ext (λ t. ap (λ c. c * k t) (chance-empty m n p t) ∙ mul-assoc (65536 ^ n) _ _))
       ∙ sumTo-mul (65536 ^ n) _ s
-      ∙ ap (λ c. 65536 ^ n * c) (sumTo-pick (λ t. chanceFrom m k t β q) p s here)
+      ∙ ap (λ c. 65536 ^ n * c) (sumTo-pick k p s here)
 
-  between-zero : (k p z : ℕ) (α β : List ℕ) (q : ℕ) → between 0 k p (z ∷ α) β q ≡ 0
-  unfolding between
-  between-zero k p z α β q =
-      ap (λ h. sumTo h s) (fun-ext (λ t. ap (λ c. c * chanceFrom m k t β q) (chance-zero m p t z α) ∙ zero-mul _)) ∙ sumTo-zero s
+  pub followed-step : (n p z : ℕ) (α : List ℕ) (k : ℕ → ℕ)
+      → followed (suc n) p (z ∷ α) k ≡ overRow m p z (λ r. followed n (r .target) (pushed (r .push) ++ α) k)
+  unfolding followed
+  followed-step n p z α k = ap (λ h. sumTo h s) (fun-ext (λ t. ap (λ c. c * k t) (chance-step m n p z α t))) ∙ row-swap-mul m p z _ _ s
 
-  between-step : (n k p z : ℕ) (α β : List ℕ) (q : ℕ)
-      → between (suc n) k p (z ∷ α) β q ≡ overRow m p z (λ r. between n k (r .target) (pushed (r .push) ++ α) β q)
-  unfolding between
-  between-step n k p z α β q =
-      ap (λ h. sumTo h s) (fun-ext (λ t. ap (λ c. c * chanceFrom m k t β q) (chance-step m n p z α t)))
-      ∙ row-swap-mul m p z _ _ s
+  pub followed-scaled : (n p : ℕ) (α : List ℕ) (c : ℕ) (k l : ℕ → ℕ) → ((t : ℕ) → t < s → c * k t ≤ l t)
+      → c * followed n p α k ≤ followed n p α l
+  unfolding followed
+  followed-scaled n p α c k l e =
+      le-trans (le-of-eq (sym (sumTo-mul c _ s)))
+      (sumTo-mono _ _ s (λ t b. le-trans (le-of-eq (mul-left-comm c _ _)) (mul-le-mul-left (chanceFrom m n p α t) (e t b))))
 
-  between-grows : (n k p : ℕ) (α β : List ℕ) (q : ℕ) → 65536 * between n k p α β q ≤ between n (suc k) p α β q
-  unfolding between
-  between-grows n k p α β q =
-      le-trans (le-of-eq (sym (sumTo-mul 65536 _ s)))
-      (sumTo-mono _ _ s (λ t b. le-trans (le-of-eq (mul-left-comm 65536 _ _)) (mul-le-mul-left (chanceFrom m n p α t) (chance-grows m k t β q))))
+  -- From p with α over β: emptying α within n steps, and β from there within k.
+  abbrev pub between : ℕ → ℕ → ℕ → List ℕ → List ℕ → ℕ → ℕ
+  between n k p α β q = followed n p α (λ t. chanceFrom m k t β q)
 
   module _ (targets : (r : Rule) → In r m → r .target < s) where
     split-empty : (n p : ℕ) (β : List ℕ) (q : ℕ) → p < s → 65536 ^ n * chanceFrom m n p β q ≤ between n n p [] β q
-    split-empty n p β q here = le-of-eq (sym (between-empty n n p β q here))
+    split-empty n p β q here = le-of-eq (sym (followed-empty n p _ here))
 
     -- Within n steps in all, each of the two parts takes at most n.
     pub chance-split : (n p : ℕ) (α β : List ℕ) (q : ℕ) → p < s
@@ -71,23 +77,22 @@ module _ (m : List Rule) (s : ℕ) where
     chance-split (suc n) p [] β q here = split-empty (suc n) p β q here
     chance-split zero p (z ∷ α) β q here = simp (chance-zero m, mul-zero) zero-le
     chance-split (suc n) p (z ∷ α) β q here =
-        simp (chance-step m, pow-succ', mul-assoc, between-step, ← row-mul m p z)
+        rw (chance-step m n p z (α ++ β) q, pow-succ', mul-assoc, followed-step n p z α _, ← row-mul m p z (65536 ^ n) _, ← row-mul m p z 65536 _)
         (row-mono m p z _ _
-          (λ r i. le-trans
-            (mul-le-mul-left 65536
-              (rw (← append-assoc (pushed (r .push)) α β) (chance-split n (r .target) (pushed (r .push) ++ α) β q (targets r i))))
-            (between-grows n n (r .target) (pushed (r .push) ++ α) β q)))
+        (λ r i. le-trans
+        (mul-le-mul-left 65536
+        (rw (← append-assoc (pushed (r .push)) α β) (chance-split n (r .target) (pushed (r .push) ++ α) β q (targets r i))))
+        (followed-scaled n (r .target) (pushed (r .push) ++ α) 65536 _ _ (λ t b. chance-grows m n t β q))))
 
     join-empty : (n k p : ℕ) (β : List ℕ) (q : ℕ) → p < s → between n k p [] β q ≤ chanceFrom m (n + k) p β q
-    join-empty n k p β q here = le-trans (le-of-eq (between-empty n k p β q here)) (chance-grows-by m n k p β q)
+    join-empty n k p β q here = le-trans (le-of-eq (followed-empty n p _ here)) (chance-grows-by m n k p β q)
 
     -- Within n steps for the one and k for the other, n + k are enough for both.
     pub chance-join : (n k p : ℕ) (α β : List ℕ) (q : ℕ) → p < s → between n k p α β q ≤ chanceFrom m (n + k) p (α ++ β) q
     chance-join zero k p [] β q here = join-empty 0 k p β q here
     chance-join (suc n) k p [] β q here = join-empty (suc n) k p β q here
-    chance-join zero k p (z ∷ α) β q here =
-        le-trans (le-of-eq (between-zero k p z α β q)) zero-le
+    chance-join zero k p (z ∷ α) β q here = le-trans (le-of-eq (followed-zero p z α _)) zero-le
     chance-join (suc n) k p (z ∷ α) β q here =
-        simp (between-step, suc-add, chance-step m)
+        rw (followed-step n p z α _, suc-add, chance-step m (n + k) p z (α ++ β) q)
         (row-mono m p z _ _
-          (λ r i. rw (← append-assoc (pushed (r .push)) α β) (chance-join n k (r .target) (pushed (r .push) ++ α) β q (targets r i))))
+        (λ r i. rw (← append-assoc (pushed (r .push)) α β) (chance-join n k (r .target) (pushed (r .push) ++ α) β q (targets r i))))

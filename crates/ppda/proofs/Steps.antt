@@ -1,18 +1,18 @@
 -- Sums over runs by their first step: the chance and the mean equal their one-step recursions, so a reader may trust either.
-use Prim.Native.Nat.{ℕ, zero, suc, _+_, _-_, _*_, _^_, _≤_, _<_}
-use native.Mathlib.Nat.{add-zero, zero-add, zero-mul, mul-zero, mul-one, one-mul, mul-comm, mul-assoc, mul-left-comm, suc-sub-suc, sub-zero, sub-self, pow-zero, pow-succ'}
+use Prim.Native.Nat.{ℕ, zero, suc, _+_, _-_, _*_, _^_}
+use native.Mathlib.Nat.{add-zero, zero-add, add-mul, mul-add, zero-mul, mul-zero, mul-one, one-mul, mul-assoc, suc-sub-suc, sub-zero}
 use native.Mathlib.Omega.{arith}
 use mathlib.Core.Path.{_≡_, refl, sym, ap, ap₂, _∙_, fun-ext}
-use mathlib.Core.Bool.{Bool, true, false, cond}
-use mathlib.Core.List.{List, [], _∷_, _++_, map, flatMap}
+use mathlib.Core.Bool.{Bool, true, false}
+use mathlib.Core.List.{List, [], _∷_, _++_}
 use mathlib.Core.Option.{Option, none, some}
 use lib.Dec.{eqb}
-use Rattle.ppda.specs.Sums.{bit, sum, sumTo, In}
+use Rattle.ppda.specs.Sums.{bit, sum, sumTo}
 use Rattle.ppda.specs.Rules.{Rule, fits, overRow, pushed}
 use Rattle.ppda.specs.Runs.{Config, at, after, lists, weigh, overRuns, overRunsWithin}
-use Rattle.ppda.specs.Chances.{returnedIn, returned, underWay, chanceFrom, counted}
-use Rattle.ppda.proofs.Sums.{sum-cong, sum-zero, sum-mul, sum-add, sum-map, sum-flatMap, sumTo-cong, sumTo-zero, sumTo-add, sumTo-mul, sumTo-front}
-use Rattle.ppda.proofs.Rows.{row-cong, row-add, row-mul, row-swap}
+use Rattle.ppda.specs.Chances.{returned, underWay, chanceFrom, counted}
+use Rattle.ppda.proofs.Sums.{sum-cong, sum-zero, sum-mul, sum-add, sum-map, sum-flatMap, sumTo-cong, sumTo-zero, sumTo-add, sumTo-front}
+use Rattle.ppda.proofs.Rows.{row-add, row-mul, row-swap}
 
 -- ---- sums over all lists of j rules
 
@@ -39,7 +39,7 @@ module _ (m : List Rule) where
 
     begun : (p z : ℕ) (σ : List ℕ) (r : Rule) (l : List Rule) (b : Bool) → fits r p z ≡ b
         → weigh (r ∷ l) * h (r ∷ l) (after p (z ∷ σ) (r ∷ l))
-          ≡ bit b * (r .weight * (weigh l * h (r ∷ l) (after (r .target) (pushed (r .push) ++ σ) l)))
+        ≡ bit b * (r .weight * (weigh l * h (r ∷ l) (after (r .target) (pushed (r .push) ++ σ) l)))
     unfolding weigh after
     begun p z σ r l true e = rw e (mul-assoc (r .weight) (weigh l) _ ∙ sym (one-mul _))
     begun p z σ r l false e = rw e (ap (λ n. r .weight * weigh l * n) (lost (r ∷ l)) ∙ mul-zero (r .weight * weigh l) ∙ sym (zero-mul _))
@@ -51,10 +51,10 @@ module _ (m : List Rule) where
     runs-step j p z σ =
         runs-split j p (z ∷ σ)
         ∙ sum-cong _ _ m
-          (λ r i. sum-cong _ _ (lists m j) (λ l k. begun p z σ r l (fits r p z) refl)
-            ∙ sum-mul (bit (fits r p z)) _ (lists m j)
-            ∙ ap (λ n. bit (fits r p z) * n)
-              (sum-mul (r .weight) (λ l. weigh l * h (r ∷ l) (after (r .target) (pushed (r .push) ++ σ) l)) (lists m j)))
+        (λ r i. sum-cong _ _ (lists m j) (λ l k. begun p z σ r l (fits r p z) refl)
+        ∙ sum-mul (bit (fits r p z)) _ (lists m j)
+        ∙ ap (λ n. bit (fits r p z) * n)
+        (sum-mul (r .weight) (λ l. weigh l * h (r ∷ l) (after (r .target) (pushed (r .push) ++ σ) l)) (lists m j)))
 
     -- The same three laws for runs of at most n steps.
     pub within-empty : (n p : ℕ) → overRunsWithin h m n p [] ≡ 65536 ^ n * h [] (some (at p []))
@@ -62,23 +62,38 @@ module _ (m : List Rule) where
     within-empty n p =
         sumTo-front _ n
         ∙ ap₂ _+_ (ap₂ (λ a b. 65536 ^ a * b) (sub-zero n) (runs-zero h p []))
-          (sumTo-cong _ (λ j. 0) n (λ j b. ap (λ k. 65536 ^ (n - suc j) * k) (runs-empty j p) ∙ mul-zero _) ∙ sumTo-zero n)
+        (sumTo-cong _ (λ j. 0) n (λ j b. ap (λ k. 65536 ^ (n - suc j) * k) (runs-empty j p) ∙ mul-zero _) ∙ sumTo-zero n)
         ∙ add-zero _
 
     pub within-step : (n p z : ℕ) (σ : List ℕ) → h [] (some (at p (z ∷ σ))) ≡ 0
         → overRunsWithin h m (suc n) p (z ∷ σ)
-          ≡ overRow m p z (λ r. overRunsWithin (λ l. h (r ∷ l)) m n (r .target) (pushed (r .push) ++ σ))
+        ≡ overRow m p z (λ r. overRunsWithin (λ l. h (r ∷ l)) m n (r .target) (pushed (r .push) ++ σ))
     unfolding overRunsWithin
     within-step n p z σ none-yet =
         sumTo-front _ (suc n)
         ∙ ap₂ _+_ (ap (λ b. 65536 ^ (suc n - 0) * b) (runs-zero h p (z ∷ σ) ∙ none-yet) ∙ mul-zero _)
-          (sumTo-cong _ _ (suc n) (λ j b. ap₂ (λ a c. 65536 ^ a * c) (suc-sub-suc n j) (runs-step j p z σ) ∙ sym (row-mul m p z _ _)))
+        (sumTo-cong _ _ (suc n) (λ j b. ap₂ (λ a c. 65536 ^ a * c) (suc-sub-suc n j) (runs-step j p z σ) ∙ sym (row-mul m p z _ _)))
         ∙ zero-add _
         ∙ row-swap m p z _ (suc n)
 
   pub within-zero : (h : List Rule → Option Config → ℕ) (p : ℕ) (σ : List ℕ) → overRunsWithin h m 0 p σ ≡ h [] (some (at p σ))
   unfolding overRunsWithin sumTo
   within-zero h p σ = zero-add _ ∙ one-mul _ ∙ runs-zero h p σ
+
+  runs-add : (h k : List Rule → Option Config → ℕ) (j p : ℕ) (σ : List ℕ)
+      → overRuns (λ l c. h l c + k l c) m j p σ ≡ overRuns h m j p σ + overRuns k m j p σ
+  unfolding overRuns
+  runs-add h k j p σ = sum-cong _ _ (lists m j) (λ l i. mul-add (weigh l) (h l (after p σ l)) (k l (after p σ l))) ∙ sum-add _ _ (lists m j)
+
+  within-add : (h k : List Rule → Option Config → ℕ) (n p : ℕ) (σ : List ℕ)
+      → overRunsWithin (λ l c. h l c + k l c) m n p σ ≡ overRunsWithin h m n p σ + overRunsWithin k m n p σ
+  unfolding overRunsWithin
+  within-add h k n p σ =
+      sumTo-cong _ _ (suc n) (λ j b. ap (λ x. 65536 ^ (n - j) * x) (runs-add h k j p σ) ∙ mul-add (65536 ^ (n - j)) _ _)
+      ∙ sumTo-add _ _ (suc n)
+
+add-add-add-comm : (a b c d : ℕ) → a + b + (c + d) ≡ a + c + (b + d)
+add-add-add-comm a b c d = omega arith
 
 -- ---- the chance by its first step (theorem a)
 
@@ -118,8 +133,17 @@ module _ (m : List Rule) where
 
   pub counted-step : (count : List Rule → ℕ) (n p z : ℕ) (σ : List ℕ)
       → counted count m (suc n) p (z ∷ σ)
-        ≡ overRow m p z (λ r. counted (λ l. count (r ∷ l)) m n (r .target) (pushed (r .push) ++ σ))
+      ≡ overRow m p z (λ r. counted (λ l. count (r ∷ l)) m n (r .target) (pushed (r .push) ++ σ))
   unfolding counted
   counted-step count n p z σ =
       ap₂ _+_ (within-step m _ (λ l. mul-zero (count l)) n p z σ (mul-zero (count []))) (runs-step m _ (λ l. mul-zero (count l)) n p z σ)
       ∙ sym (row-add m p z _ _)
+
+  -- What the runs count adds up.
+  pub counted-add : (a b : List Rule → ℕ) (n p : ℕ) (σ : List ℕ)
+      → counted (λ l. a l + b l) m n p σ ≡ counted a m n p σ + counted b m n p σ
+  unfolding counted
+  counted-add a b n p σ =
+      ap₂ _+_ (ap (λ h. overRunsWithin h m n p σ) (fun-ext (λ l. fun-ext (λ c. add-mul (a l) (b l) (returned c)))) ∙ within-add m _ _ n p σ)
+      (ap (λ h. overRuns h m n p σ) (fun-ext (λ l. fun-ext (λ c. add-mul (a l) (b l) (underWay c)))) ∙ runs-add m _ _ n p σ)
+      ∙ add-add-add-comm _ _ _ _

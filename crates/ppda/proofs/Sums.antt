@@ -1,9 +1,8 @@
 -- The laws of sums and of least values.
-use Prim.Native.Nat.{ℕ, zero, suc, _+_, _*_, _≤_, _<_, zero-le, min}
-use native.Mathlib.Nat.{le-refl, le-trans, le-of-eq, add-le-add, add-assoc, add-zero, zero-add, mul-zero, mul-one, one-mul, zero-mul, mul-add, add-mul, min-le-left, min-le-right, eq-zero-or-pos, not-suc-le-zero, eq-or-lt-of-le, le-of-suc-le-suc}
+use Prim.Native.Nat.{ℕ, zero, suc, _+_, _*_, _≤_, _<_, min}
+use native.Mathlib.Nat.{le-refl, add-le-add, zero-add, mul-zero, zero-mul, eq-zero-or-pos, not-suc-le-zero, eq-or-lt-of-le, le-of-suc-le-suc}
 use native.Mathlib.Omega.{arith}
-use mathlib.Core.Path.{_≡_, refl, sym, ap, ap₂, _∙_, subst, fun-ext}
-use mathlib.Core.Bool.{Bool, true, false}
+use mathlib.Core.Path.{_≡_, refl, sym, ap, ap₂, _∙_}
 use mathlib.Core.List.{List, [], _∷_, _++_, map, flatMap}
 use mathlib.Core.Logic.{_⊎_, inl, inr}
 use lib.Dec.{eqb}
@@ -133,6 +132,25 @@ term-le-sumTo h (suc n) i b = go (eq-or-lt-of-le (le-of-suc-le-suc b)) (λ c. te
     go (inl e) rest = rw e (omega arith)
     go (inr c) rest = let t : h i ≤ sumTo h n = rest c in omega arith
 
+-- A sum of n terms of at most b each.
+pub sumTo-le : (h : ℕ → ℕ) (b n : ℕ) → ((i : ℕ) → i < n → h i ≤ b) → sumTo h n ≤ n * b
+unfolding sumTo
+sumTo-le h b zero e = omega arith
+sumTo-le h b (suc n) e = let t : sumTo h n ≤ n * b = sumTo-le h b n (λ i c. e i (omega arith)) in omega (arith, e n (le-refl (suc n)))
+
+-- Two sums whose terms are in order, while the sums are not: the terms are equal.
+pub sumTo-tight : (h k : ℕ → ℕ) (n : ℕ) → ((i : ℕ) → i < n → h i ≤ k i) → sumTo k n ≤ sumTo h n → (i : ℕ) → i < n → k i ≤ h i
+unfolding sumTo
+sumTo-tight h k zero e c i b = absurd (not-suc-le-zero b)
+sumTo-tight h k (suc n) e c i b = go (eq-or-lt-of-le (le-of-suc-le-suc b)) (λ d. sumTo-tight h k n below d i)
+  where
+    below : (j : ℕ) → j < n → h j ≤ k j
+    below j d = e j (omega arith)
+
+    go : (i ≡ n) ⊎ (i < n) → (sumTo k n ≤ sumTo h n → i < n → k i ≤ h i) → k i ≤ h i
+    go (inl q) rest = rw q (omega (arith, sumTo-mono h k n below))
+    go (inr d) rest = rest (omega (arith, e n (le-refl (suc n)))) d
+
 -- A sum in which only the term at p can differ from 0.
 pub sumTo-pick : (h : ℕ → ℕ) (p n : ℕ) → p < n → sumTo (λ i. bit (eqb p i) * h i) n ≡ h p
 unfolding sumTo
@@ -143,7 +161,7 @@ sumTo-pick h p (suc n) b = go (eq-or-lt-of-le (le-of-suc-le-suc b)) (λ c. sumTo
     below k c = sumTo-cong (λ i. bit (eqb p i) * h i) (λ i. 0) k (λ i d. rw (ne-eqb p i (λ e. omega arith)) (zero-mul (h i))) ∙ sumTo-zero k
 
     go : (p ≡ n) ⊎ (p < n) → (p < n → sumTo (λ i. bit (eqb p i) * h i) n ≡ h p)
-      → sumTo (λ i. bit (eqb p i) * h i) n + bit (eqb p n) * h n ≡ h p
+        → sumTo (λ i. bit (eqb p i) * h i) n + bit (eqb p n) * h n ≡ h p
     go (inl e) rest = rw (below n (omega arith), eq-eqb p n e, e) (omega arith)
     go (inr c) rest = rw (rest c, ne-eqb p n (λ e. omega arith)) (omega arith)
 
@@ -188,3 +206,19 @@ leastTo-le-term top h (suc n) i b = go (eq-or-lt-of-le (le-of-suc-le-suc b)) (λ
     go : (i ≡ n) ⊎ (i < n) → (i < n → leastTo top h n ≤ h i) → min (leastTo top h n) (h n) ≤ h i
     go (inl e) rest = rw e (omega arith)
     go (inr c) rest = let t : leastTo top h n ≤ h i = rest c in omega arith
+
+-- ---- products above 0
+
+-- Both factors are above 0.
+pub left-of-product : (a b : ℕ) → 0 < a * b → 0 < a
+left-of-product zero b h = omega arith
+left-of-product (suc a) b h = omega arith
+
+pub right-of-product : (a b : ℕ) → 0 < a * b → 0 < b
+right-of-product a zero h = omega arith
+right-of-product a (suc b) h = omega arith
+
+-- A number of at most 1 is at most any number that is above 0 where it is.
+pub bit-le : (a b : ℕ) → a ≤ 1 → (0 < a → 0 < b) → a ≤ b
+bit-le zero b h k = omega arith
+bit-le (suc a) b h k = let t : 0 < b = k (omega arith) in omega arith

@@ -1,9 +1,9 @@
 -- Mission point 3, the uppers (theorem b; document 001, Lemma 3): where u ≥ f(u) at every entry, every chance within n steps is at
 -- most the upper. By induction on n: n + 1 steps are at most f of n steps, which is at most f(u).
-use Prim.Native.Nat.{ℕ, zero, suc, _+_, _*_, _^_, _≤_, _<_, zero-le}
-use native.Mathlib.Nat.{le-of-mul-le-mul-left, mul-le-mul-left, mul-le-mul-right, mul-pos, one-le-pow, zero-lt-suc, pow-succ', zero-mul}
+use Prim.Native.Nat.{ℕ, zero, suc, _*_, _^_, _≤_, _<_, zero-le}
+use native.Mathlib.Nat.{le-of-mul-le-mul-left, mul-le-mul-right, mul-pos, one-le-pow, zero-lt-suc, pow-succ', zero-mul}
 use native.Mathlib.Omega.{arith}
-use mathlib.Core.List.{List, []}
+use mathlib.Core.List.{List}
 use lib.Dec.{lit<}
 use Rattle.ppda.specs.Rules.{Rule, IsModel}
 use Rattle.ppda.specs.Chances.{chance}
@@ -25,5 +25,5 @@ upper-holds m s g u model uppers zero p z q hp hz hq = simp (chance-zero m, zero
 upper-holds m s g u model uppers (suc n) p z q hp hz hq =
     simp pow-succ'
     (cancel (65536 ^ n) (2 ^ 20) (chance m (suc n) p z q) (f m s (65536 ^ n) (chance m n) p z q) (f m s (2 ^ 20) u p z q) (u p z q)
-      (power-positive n) (lit< tt) (chance-step-le-f m s g model n p z q)
-      (f-grows m s g model (65536 ^ n) (2 ^ 20) (chance m n) u (upper-holds m s g u model uppers n) p z q hq) (uppers p z q hp hz hq))
+    (power-positive n) (lit< tt) (chance-step-le-f m s g model n p z q)
+    (f-grows m s g model (65536 ^ n) (2 ^ 20) (chance m n) u (upper-holds m s g u model uppers n) p z q hq) (uppers p z q hp hz hq))

@@ -7,7 +7,7 @@ use Rattle.ppda.specs.Rules.{Rule}
 use Rattle.ppda.specs.Chances.{chance, mean}
 use Rattle.ppda.specs.Equations.{Vector, Figures, f, meanSide}
 use Rattle.ppda.specs.Live.{alive}
-use Rattle.ppda.specs.Margin.{margin, whole, kept}
+use Rattle.ppda.specs.Margin.{whole, kept}
 
 -- Uppers (document 001, Lemma 3): u ≥ f(u) at every entry.
 abbrev pub Uppers : List Rule → ℕ → ℕ → Vector → Type 0
@@ -48,7 +48,7 @@ abbrev pub LowerHolds : List Rule → ℕ → ℕ → Vector → Vector → ℕ 
 LowerHolds m s g u l a =
     (k p z q : ℕ) → p < s → z < g → q < s
     → l p z q * 65536 ^ stepsOf k * whole a ^ k
-      ≤ chance m (stepsOf k) p z q * 2 ^ 20 * whole a ^ k + kept a ^ k * u p z q * 65536 ^ stepsOf k
+    ≤ chance m (stepsOf k) p z q * 2 ^ 20 * whole a ^ k + kept a ^ k * u p z q * 65536 ^ stepsOf k
 
 -- "Every mean of steps counted to n is at most the figure."
 abbrev pub MeanHolds : List Rule → ℕ → ℕ → Figures → Type 0

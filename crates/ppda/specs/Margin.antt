@@ -1,5 +1,5 @@
 -- The margin of a certificate's uppers (document 01, "Deliveries"; "share" and "margin" are its terms).
-use Prim.Native.Nat.{ℕ, zero, suc, _+_, _-_, _*_, _/_, _^_}
+use Prim.Native.Nat.{ℕ, zero, suc, _-_, _*_, _/_, _^_}
 use mathlib.Core.List.{List}
 use Rattle.ppda.specs.Sums.{leastTo}
 use Rattle.ppda.specs.Rules.{Rule}

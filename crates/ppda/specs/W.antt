@@ -1,7 +1,7 @@
 -- Model W of document 01: document 001's Figure 1 with state p as 0, q as 1 and Z as 0; and the certificate that it prints.
 use Prim.Native.Nat.{ℕ}
 use mathlib.Core.List.{List, [], _∷_}
-use Rattle.ppda.specs.Rules.{Rule, Push, nothing, one, two}
+use Rattle.ppda.specs.Rules.{Rule, Push, nothing, two}
 use Rattle.ppda.specs.Equations.{Vector, Figures, entries, rows}
 
 abbrev rule : ℕ → ℕ → ℕ → Push → ℕ → Rule

@@ -1,0 +1,50 @@
+-- The laws of membership.
+use mathlib.Core.Path.{_≡_, refl, sym, ap, subst}
+use mathlib.Core.List.{List, [], _∷_, _++_, map, flatMap}
+use mathlib.Core.Logic.{_⊎_, inl, inr}
+use Rattle.ppda.specs.Sums.{In}
+
+module _ {A : Type 0} where
+  -- P holds of every element.
+  abbrev pub All : (A → Type 0) → List A → Type 0
+  All P [] = Unit {0}
+  All P (x ∷ l) = P x × All P l
+
+  pub in-all : (P : A → Type 0) (l : List A) → All P l → (x : A) → In x l → P x
+  in-all P (y ∷ l) a x (inl e) = subst P (sym e) (a .0)
+  in-all P (y ∷ l) a x (inr i) = in-all P l (a .1) x i
+
+  pub in-append-left : (x : A) (k l : List A) → In x k → In x (k ++ l)
+  in-append-left x (y ∷ k) l (inl e) = inl e
+  in-append-left x (y ∷ k) l (inr i) = inr (in-append-left x k l i)
+
+  pub in-append-right : (x : A) (k l : List A) → In x l → In x (k ++ l)
+  in-append-right x [] l i = i
+  in-append-right x (y ∷ k) l i = inr (in-append-right x k l i)
+
+  pub in-append-cases : (x : A) (k l : List A) → In x (k ++ l) → In x k ⊎ In x l
+  in-append-cases x [] l i = inr i
+  in-append-cases x (y ∷ k) l (inl e) = inl (inl e)
+  in-append-cases x (y ∷ k) l (inr i) = elim (in-append-cases x k l i) [ inl a ↦ inl (inr a) | inr b ↦ inr b ]
+
+module _ {A B : Type 0} where
+  pub in-map : (k : A → B) (x : A) (l : List A) → In x l → In (k x) (map k l)
+  in-map k x (y ∷ l) (inl e) = inl (ap k e)
+  in-map k x (y ∷ l) (inr i) = inr (in-map k x l i)
+
+  pub of-in-map : (k : A → B) (y : B) (l : List A) → In y (map k l) → (x : A) × In x l × (y ≡ k x)
+  of-in-map k y (x ∷ l) (inl e) = (x, inl refl, e)
+  of-in-map k y (x ∷ l) (inr i) = let t = of-in-map k y l i in (t .0, inr (t .1), t .2)
+
+  pub in-flatMap : (k : A → List B) (x : A) (y : B) (l : List A) → In x l → In y (k x) → In y (flatMap k l)
+  unfolding flatMap
+  in-flatMap k x y (w ∷ l) (inl e) j = in-append-left y (k w) (flatMap k l) (rw e at j)
+  in-flatMap k x y (w ∷ l) (inr i) j = in-append-right y (k w) (flatMap k l) (in-flatMap k x y l i j)
+
+  pub of-in-flatMap : (k : A → List B) (y : B) (l : List A) → In y (flatMap k l) → (x : A) × In x l × In y (k x)
+  unfolding flatMap
+  of-in-flatMap k y (x ∷ l) i = go (in-append-cases y (k x) (flatMap k l) i) (of-in-flatMap k y l)
+    where
+      go : In y (k x) ⊎ In y (flatMap k l) → (In y (flatMap k l) → (w : A) × In w l × In y (k w)) → (w : A) × In w (x ∷ l) × In y (k w)
+      go (inl a) rest = (x, inl refl, a)
+      go (inr b) rest = let t = rest b in (t .0, inr (t .1), t .2)
