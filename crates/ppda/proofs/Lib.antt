@@ -1,4 +1,5 @@
 -- The theorems: mission point 3 over lists of rules and vectors.
+pub mod W
 pub mod Sums
 pub mod Lists
 pub mod Rows
@@ -10,6 +11,7 @@ pub mod Marks
 pub mod Live
 pub mod Margin
 pub mod Lower
+pub mod Mass
 pub mod Mean
 pub mod Bounds
-pub mod W
+pub mod WHolds

@@ -37,7 +37,7 @@ convex b c x₁ x₂ u₁ u₂ h₁ h₂ =
     gaps b c x₁ x₂ a₁ a₂ = omega arith
 
 module _ (m : List Rule) (s g : ℕ) (model : IsModel s g m) where
-  module _ (b c e d : ℕ) (v u : Vector) (le : Under m s g model e d v u) where
+  module _ (b c e d : ℕ) (v u : Vector) (le : Under s g e d v u) where
     through-convex : (r : ℕ) (a : Push) (q : ℕ) → r < s → Below g (pushed a) → q < s
         → through s ((b + c) * (e * d)) (mix b c e d v u) r a q
         ≤ (b + c) * b * (d * d) * through s e v r a q + (b + c) * c * (e * e) * through s d u r a q
@@ -119,7 +119,7 @@ module _ (m : List Rule) (s g : ℕ) (u l : Vector) (model : IsModel s g m) (upp
       mixed : Vector
       mixed = mix b (c ^ k) scale (2 ^ 20) (chance m (stepsOf k)) u
 
-      below : Under m s g model (2 ^ 20) (h ^ k * (scale * 2 ^ 20)) l mixed
+      below : Under s g (2 ^ 20) (h ^ k * (scale * 2 ^ 20)) l mixed
       below p z q hp hz hq = omega (arith, mul-le-mul-right (2 ^ 20) (between p z q hp hz hq))
 
       fmix : f m s (h ^ k * (scale * 2 ^ 20)) mixed p z q

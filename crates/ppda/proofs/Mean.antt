@@ -1,7 +1,7 @@
 -- Mission point 3, the mean steps (theorem d; document 001, Theorems 7 and 8): where the figures are at least the right side, every mean
 -- of steps counted to n is at most the figure. By induction on n, with the mean of one stack over another bounded as in `Stacks`.
 use Prim.Native.Nat.{ℕ, zero, suc, _+_, _*_, _^_, _≤_, _<_, zero-le}
-use native.Mathlib.Nat.{le-refl, add-le-add, le-of-mul-le-mul-left, mul-le-mul, mul-le-mul-left, mul-le-mul-right, mul-comm, mul-one, one-mul, mul-zero, zero-mul, mul-add, pow-succ'}
+use native.Mathlib.Nat.{le-refl, add-le-add, le-of-mul-le-mul-left, mul-le-mul, mul-le-mul-left, mul-le-mul-right, one-mul, mul-zero, zero-mul, mul-add, pow-succ'}
 use native.Mathlib.Numerals.{one-add}
 use native.Mathlib.Omega.{arith}
 use mathlib.Core.Path.{_≡_, sym, ap, _∙_, fun-ext}
@@ -14,8 +14,9 @@ use Rattle.ppda.specs.Chances.{counted, mean}
 use Rattle.ppda.specs.Equations.{Vector, Figures, stepsThrough, meanSide}
 use Rattle.ppda.specs.Bounds.{Uppers, Means, MeanHolds}
 use Rattle.ppda.proofs.Sums.{sumTo-scaled}
-use Rattle.ppda.proofs.Rows.{row-mono, row-cong, row-add, row-mul, row-const, row-combined, row-scaled}
+use Rattle.ppda.proofs.Rows.{row-mono, row-cong, row-add, row-mul, row-combined, row-scaled}
 use Rattle.ppda.proofs.Steps.{counted-zero, counted-empty, counted-step, counted-add}
+use Rattle.ppda.proofs.Mass.{after-below, row-of-power, mass-whole-from}
 use Rattle.ppda.proofs.Upper.{power-positive, upper-holds}
 use Rattle.ppda.proofs.Stacks.{below-append, followed, followed-empty, followed-step, followed-scaled}
 
@@ -24,21 +25,6 @@ abbrev pub meanFrom : List Rule → ℕ → ℕ → List ℕ → ℕ
 meanFrom m n p σ = counted (λ l. length l) m n p σ
 
 module _ (m : List Rule) (s g : ℕ) (model : IsModel s g m) where
-  after-below : (r : Rule) → In r m → (σ : List ℕ) → Below g σ → Below g (pushed (r .push) ++ σ)
-  after-below r i σ b = below-append g (pushed (r .push)) σ (model .rule r i .push) b
-
-  -- Theorem f: the mass of the runs that the mean counts is whole.
-  pub mass-whole : (n p : ℕ) (σ : List ℕ) → p < s → Below g σ → counted (λ l. 1) m n p σ ≡ 65536 ^ n
-  mass-whole zero p σ hp b = counted-zero m (λ l. 1) p σ
-  mass-whole (suc n) p [] hp b = counted-empty m (λ l. 1) (suc n) p ∙ mul-one _
-  mass-whole (suc n) p (z ∷ σ) hp b =
-      counted-step m (λ l. 1) n p z σ
-      ∙ row-cong m p z _ (λ r. 65536 ^ n) (λ r i. mass-whole n (r .target) (pushed (r .push) ++ σ) (model .rule r i .target) (after-below r i σ (b .1)))
-      ∙ row-const m p z (65536 ^ n)
-      ∙ ap (λ k. 65536 ^ n * k) (model .row p z hp (b .0))
-      ∙ mul-comm (65536 ^ n) 65536
-      ∙ sym (pow-succ' 65536 n)
-
   -- The mean by its first step: 1, and the mean of what follows.
   pub mean-step : (n p z : ℕ) (σ : List ℕ) → p < s → z < g → Below g σ
       → meanFrom m (suc n) p (z ∷ σ) ≡ 65536 ^ suc n + overRow m p z (λ r. meanFrom m n (r .target) (pushed (r .push) ++ σ))
@@ -47,7 +33,7 @@ module _ (m : List Rule) (s g : ℕ) (model : IsModel s g m) where
       ∙ row-cong m p z _ (λ r. 65536 ^ n + meanFrom m n (r .target) (pushed (r .push) ++ σ)) (λ r i. each r i)
       ∙ row-add m p z (λ r. 65536 ^ n) _
       ∙ ap (λ k. k + overRow m p z (λ r. meanFrom m n (r .target) (pushed (r .push) ++ σ)))
-      (row-const m p z (65536 ^ n) ∙ ap (λ k. 65536 ^ n * k) (model .row p z hp hz) ∙ mul-comm (65536 ^ n) 65536 ∙ sym (pow-succ' 65536 n))
+      (row-of-power m s g model n p z hp hz)
     where
       each : (r : Rule) → In r m
           → counted (λ l. suc (length l)) m n (r .target) (pushed (r .push) ++ σ) ≡ 65536 ^ n + meanFrom m n (r .target) (pushed (r .push) ++ σ)
@@ -55,7 +41,7 @@ module _ (m : List Rule) (s g : ℕ) (model : IsModel s g m) where
           ap (λ h. counted h m n (r .target) (pushed (r .push) ++ σ)) (fun-ext (λ l. sym (one-add (length l))))
           ∙ counted-add m (λ l. 1) (λ l. length l) n (r .target) (pushed (r .push) ++ σ)
           ∙ ap (λ k. k + meanFrom m n (r .target) (pushed (r .push) ++ σ))
-          (mass-whole n (r .target) (pushed (r .push) ++ σ) (model .rule r i .target) (after-below r i σ b))
+          (mass-whole-from m s g model n (r .target) (pushed (r .push) ++ σ) (model .rule r i .target) (after-below m s g model r i σ b))
 
   pub mean-zero : (p : ℕ) (σ : List ℕ) → meanFrom m 0 p σ ≡ 0
   mean-zero p σ = counted-zero m (λ l. length l) p σ
@@ -70,7 +56,7 @@ module _ (m : List Rule) (s g : ℕ) (model : IsModel s g m) where
   mean-grows (suc n) p (z ∷ σ) hp b =
       rw (mean-step n p z σ hp (b .0) (b .1), mean-step (suc n) p z σ hp (b .0) (b .1), mul-add, ← row-mul m p z 65536 _, pow-succ' 65536 (suc n))
       (add-le-add (le-refl _)
-      (row-mono m p z _ _ (λ r i. mean-grows n (r .target) (pushed (r .push) ++ σ) (model .rule r i .target) (after-below r i σ (b .1)))))
+      (row-mono m p z _ _ (λ r i. mean-grows n (r .target) (pushed (r .push) ++ σ) (model .rule r i .target) (after-below m s g model r i σ (b .1)))))
 
   split-empty : (n p : ℕ) (β : List ℕ) → p < s
       → 65536 ^ n * meanFrom m n p β ≤ 65536 ^ n * meanFrom m n p [] + followed m s n p [] (λ t. meanFrom m n t β)
@@ -83,7 +69,7 @@ module _ (m : List Rule) (s g : ℕ) (model : IsModel s g m) where
   mean-split (suc n) p [] β hp a b = split-empty (suc n) p β hp
   mean-split (suc n) p (z ∷ α) β hp a b =
       rw (mean-step n p z (α ++ β) hp (a .0) (below-append g α β (a .1) b), mean-step n p z α hp (a .0) (a .1), followed-step m s n p z α _, pow-succ')
-      (add-up (65536 ^ n) _ _ _ _ (main (λ r i. mean-split n (r .target) (pushed (r .push) ++ α) β (model .rule r i .target) (after-below r i α (a .1)) b)) more)
+      (add-up (65536 ^ n) _ _ _ _ (main (λ r i. mean-split n (r .target) (pushed (r .push) ++ α) β (model .rule r i .target) (after-below m s g model r i α (a .1)) b)) more)
     where
       add-up : (e x y w w′ : ℕ) → e * x ≤ e * y + w → 65536 * w ≤ w′ → 65536 * e * (65536 * e + x) ≤ 65536 * e * (65536 * e + y) + w′
       add-up e x y w w′ h k = omega (arith, mul-le-mul-left 65536 h)
@@ -121,7 +107,7 @@ pub mean-holds : (m : List Rule) (s g : ℕ) (u : Vector) (r : Figures) → IsMo
 unfolding followed meanSide
 mean-holds m s g u r model uppers means zero p z hp hz = simp (mean-zero m s g model, zero-mul) zero-le
 mean-holds m s g u r model uppers means (suc n) p z hp hz =
-    rw (mean-step m s g model n p z [] hp hz tt, pow-succ')
+    rw (mean-step m s g model n p z [] hp hz tt, pow-succ' 65536 n)
     (figure-step (65536 ^ n) (2 ^ 20) (2 ^ 8) _ _ (r p z) (lit< tt)
     (row-scaled m p z (2 ^ 8 * 2 ^ 20) (65536 ^ n) _ _
     (λ k i. each (mean-holds m s g u r model uppers means n) (k .target) (k .push) (model .rule k i .target) (model .rule k i .push)))

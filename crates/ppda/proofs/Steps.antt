@@ -10,9 +10,9 @@ use lib.Dec.{eqb}
 use Rattle.ppda.specs.Sums.{bit, sum, sumTo}
 use Rattle.ppda.specs.Rules.{Rule, fits, overRow, pushed}
 use Rattle.ppda.specs.Runs.{Config, at, after, lists, weigh, overRuns, overRunsWithin}
-use Rattle.ppda.specs.Chances.{returned, underWay, chanceFrom, counted}
+use Rattle.ppda.specs.Chances.{returned, underWay, chanceFrom, chanceByStep, counted}
 use Rattle.ppda.proofs.Sums.{sum-cong, sum-zero, sum-mul, sum-add, sum-map, sum-flatMap, sumTo-cong, sumTo-zero, sumTo-add, sumTo-front}
-use Rattle.ppda.proofs.Rows.{row-add, row-mul, row-swap}
+use Rattle.ppda.proofs.Rows.{row-cong, row-add, row-mul, row-swap}
 
 -- ---- sums over all lists of j rules
 
@@ -110,6 +110,14 @@ module _ (m : List Rule) where
       → chanceFrom m (suc n) p (z ∷ σ) q ≡ overRow m p z (λ r. chanceFrom m n (r .target) (pushed (r .push) ++ σ) q)
   unfolding chanceFrom
   chance-step n p z σ q = within-step m _ (λ l. refl) n p z σ refl
+
+  pub chance-by-step : (n p : ℕ) (σ : List ℕ) (q : ℕ) → chanceFrom m n p σ q ≡ chanceByStep m n p σ q
+  unfolding chanceByStep
+  chance-by-step zero p [] q = chance-empty 0 p q ∙ one-mul _
+  chance-by-step zero p (z ∷ σ) q = chance-zero p q z σ
+  chance-by-step (suc n) p [] q = chance-empty (suc n) p q
+  chance-by-step (suc n) p (z ∷ σ) q =
+      chance-step n p z σ q ∙ row-cong m p z _ _ (λ r i. chance-by-step n (r .target) (pushed (r .push) ++ σ) q)
 
 -- ---- the counted runs by their first step
 

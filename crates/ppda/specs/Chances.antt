@@ -1,12 +1,12 @@
 -- The chance of returning within n steps, and the mean of steps counted no further than n (document 01, "Equations"): exact
 -- sums over runs, without the equations. Each is a whole number over 65536 ^ n.
-use Prim.Native.Nat.{ℕ, _+_, _*_}
-use mathlib.Core.List.{List, [], _∷_}
+use Prim.Native.Nat.{ℕ, zero, suc, _+_, _*_, _^_}
+use mathlib.Core.List.{List, [], _∷_, _++_}
 use mathlib.Core.Option.{Option, none, some}
 use lib.Dec.{eqb}
 use lib.ListN.{length}
 use Rattle.ppda.specs.Sums.{bit}
-use Rattle.ppda.specs.Rules.{Rule}
+use Rattle.ppda.specs.Rules.{Rule, overRow, pushed}
 use Rattle.ppda.specs.Runs.{Config, at, overRuns, overRunsWithin}
 
 -- 1 where the run has emptied the stack in state q, else 0.
@@ -34,6 +34,13 @@ chanceFrom m n p σ q = overRunsWithin (λ l c. returnedIn q c) m n p σ
 -- The chance of the entry (p, z, q) within n steps. "Entry" is document 01's term for the return chance [pZ|q] of document 001.
 abbrev pub chance : List Rule → ℕ → ℕ → ℕ → ℕ → ℕ
 chance m n p z q = chanceFrom m n p (z ∷ []) q
+
+-- The same chance by its first step, as for a Markov chain of configurations. It equals `chanceFrom` (theorem `chance-by-step`).
+unfoldable pub chanceByStep : List Rule → ℕ → ℕ → List ℕ → ℕ → ℕ
+chanceByStep m zero p [] q = bit (eqb p q)
+chanceByStep m zero p (z ∷ σ) q = 0
+chanceByStep m (suc n) p [] q = 65536 ^ suc n * bit (eqb p q)
+chanceByStep m (suc n) p (z ∷ σ) q = overRow m p z (λ r. chanceByStep m n (r .target) (pushed (r .push) ++ σ) q)
 
 -- From state p with the stack σ: the sum of each run's product of chances times what it counts, over the runs that return
 -- within n steps and the runs of exactly n steps that have not returned, over 65536 ^ n.
