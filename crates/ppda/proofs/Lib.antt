@@ -11,7 +11,9 @@ pub mod Marks
 pub mod Live
 pub mod Margin
 pub mod Lower
+pub mod Rounds
 pub mod Mass
 pub mod Mean
 pub mod Bounds
 pub mod WHolds
+pub mod Example

@@ -1,8 +1,27 @@
 -- The laws of membership.
+use Prim.Native.Nat.{ℕ, zero, suc, _<_}
+use native.Mathlib.Nat.{not-suc-le-zero, eq-or-lt-of-le, le-of-suc-le-suc}
 use mathlib.Core.Path.{_≡_, refl, sym, ap, subst}
 use mathlib.Core.List.{List, [], _∷_, _++_, map, flatMap}
 use mathlib.Core.Logic.{_⊎_, inl, inr}
 use Rattle.ppda.specs.Sums.{In}
+
+-- P holds of every number below n.
+abbrev pub AllTo : (ℕ → Type 0) → ℕ → Type 0
+AllTo P zero = Unit {0}
+AllTo P (suc n) = AllTo P n × P n
+
+pub all-to : (P : ℕ → Type 0) (n : ℕ) → AllTo P n → (i : ℕ) → i < n → P i
+all-to P zero a i b = absurd (not-suc-le-zero b)
+all-to P (suc n) a i b = elim (eq-or-lt-of-le (le-of-suc-le-suc b)) [ inl e ↦ subst P (sym e) (a .1) | inr c ↦ all-to P n (a .0) i c ]
+
+-- And of all rows and entries of s states and g symbols.
+pub at-rows : (s g : ℕ) (P : ℕ → ℕ → Type 0) → AllTo (λ p. AllTo (P p) g) s → (p z : ℕ) → p < s → z < g → P p z
+at-rows s g P a p z hp = all-to (P p) g (all-to (λ p. AllTo (P p) g) s a p hp) z
+
+pub at-entries : (s g : ℕ) (P : ℕ → ℕ → ℕ → Type 0) → AllTo (λ p. AllTo (λ z. AllTo (P p z) s) g) s
+    → (p z q : ℕ) → p < s → z < g → q < s → P p z q
+at-entries s g P a p z q hp hz = all-to (P p z) s (at-rows s g (λ p z. AllTo (P p z) s) a p z hp hz) q
 
 module _ {A : Type 0} where
   -- P holds of every element.

@@ -1,6 +1,6 @@
--- Live by rounds of f exactly when live by runs (theorem e; document 01, "Equations").
+-- Live by rounds of f exactly when live by runs (document 01, "Equations").
 use Prim.Native.Nat.{ℕ, zero, suc, _*_, _<_}
-use native.Mathlib.Nat.{le-refl, le-trans, mul-pos}
+use native.Mathlib.Nat.{le-refl, le-trans, le-of-eq, mul-pos}
 use native.Mathlib.Omega.{arith}
 use mathlib.Core.Path.{_≡_, refl, sym, ap, _∙_, subst}
 use mathlib.Core.Bool.{Bool, true, false, cond}
@@ -17,7 +17,7 @@ use Rattle.ppda.specs.Live.{Live, mark, alive}
 use Rattle.ppda.proofs.Sums.{left-of-product, right-of-product, sumTo-positive, term-le-sumTo}
 use Rattle.ppda.proofs.Lists.{in-flatMap, in-map, of-in-flatMap, of-in-map}
 use Rattle.ppda.proofs.Stacks.{below-append}
-use Rattle.ppda.proofs.Marks.{Inside, alive-closed, bit-true, f-positive, mark-is-bit, mark-suc, no-mark}
+use Rattle.ppda.proofs.Marks.{Inside, alive-closed, bit-true, f-positive, alive-is-bit, mark-suc, no-mark}
 
 -- ---- runs
 
@@ -157,11 +157,11 @@ pub live-by-rounds : (m : List Rule) (s g : ℕ) → IsModel s g m → (p z q : 
 unfolding alive
 live-by-rounds m s g model p z q a b c = (there, back)
   where
-    there : mark m s (s * g * s) p z q ≡ 1 → Live m p z q
-    there e = live-emptied m p z q .0 (mark-emptied m s (s * g * s) p z q (omega arith))
+    there : alive m s g p z q ≡ 1 → Live m p z q
+    there e = live-emptied m p z q .0 (mark-emptied m s _ p z q (le-of-eq (sym e)))
 
-    back : Live m p z q → mark m s (s * g * s) p z q ≡ 1
+    back : Live m p z q → alive m s g p z q ≡ 1
     back h =
         let r = live-emptied m p z q .1 h in
         let t = chain-of-run m s g model (alive m s g) (alive-closed m s g model) p (z ∷ []) (r .0) q a (b, tt) (r .1) (r .2) in
-        omega (arith, mark-is-bit m s (s * g * s) p z q, subst (λ n. 0 < mark m s (s * g * s) p z n) (t .3) (t .2))
+        omega (arith, alive-is-bit m s g p z q, subst (λ n. 0 < alive m s g p z n) (t .3) (t .2))

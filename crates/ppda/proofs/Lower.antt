@@ -1,7 +1,7 @@
--- Mission point 3, the lowers (theorem c; after document 001, Theorem 5): every chance within 2^k − 1 steps is at least the lower
+-- Mission point 3, the lowers (after document 001, Theorem 5): every chance within 2^k − 1 steps is at least the lower
 -- less (1 − m)^k times the upper. With c = 1 − m the stronger l ≤ (1 − c^k)·chance + c^k·u goes by induction on k: l ≤ f(l), f is convex
 -- between the chance and u, f of the chance within n steps is at most the chance within 2n + 1, and f(u) ≤ c·u.
-use Prim.Native.Nat.{ℕ, zero, suc, _+_, _*_, _^_, _≤_, _<_}
+use Prim.Native.Nat.{ℕ, zero, suc, _+_, _-_, _*_, _^_, _≤_, _<_}
 use native.Mathlib.Nat.{add-le-add, le-refl, le-trans, le-of-eq, le-dest, le-intro, le-of-mul-le-mul-left, le-of-lt, mul-le-mul, mul-le-mul-left, mul-le-mul-right, mul-pos, one-le-pow, pow-zero, pow-succ', zero-add}
 use native.Mathlib.Omega.{arith}
 use mathlib.Core.Path.{_≡_, refl, ap}
@@ -84,11 +84,11 @@ next-weight b c w h k e le =
     let (a, ea) = le-dest le in
     (h * b + a * c, omega (arith, ap (λ n. n * c) ea, ap (λ n. h * n) e), omega arith)
 
-steps-suc : (k : ℕ) → stepsOf (suc k) ≡ suc (stepsOf k + stepsOf k)
+pub steps-suc : (k : ℕ) → stepsOf (suc k) ≡ suc (stepsOf k + stepsOf k)
 unfolding stepsOf
 steps-suc k = omega (arith, pow-succ' 2 k, pow-pos k)
 
-scale-suc : (k : ℕ) → 65536 ^ stepsOf (suc k) ≡ 65536 * (65536 ^ stepsOf k * 65536 ^ stepsOf k)
+pub scale-suc : (k : ℕ) → 65536 ^ stepsOf (suc k) ≡ 65536 * (65536 ^ stepsOf k * 65536 ^ stepsOf k)
 scale-suc k = rw (steps-suc k, pow-succ', pow-add) refl
 
 -- l ≤ (b·chance + c^k·u) / h^k at every entry, within 2^k − 1 steps.
@@ -154,3 +154,21 @@ lower-holds m s g u l model uppers lowers k p z q hp hz hq =
     lower-between m s g u l model uppers lowers (whole a) (kept a) (kept-below-whole a) (f-le-kept m s g u l uppers lowers) k in
     drop-weight b (whole a ^ k) (kept a ^ k) (l p z q) (65536 ^ stepsOf k) (2 ^ 20) (chance m (stepsOf k) p z q) (u p z q)
     (le-intro b (kept a ^ k) e) (between p z q hp hz hq)
+
+-- ---- the promise in its own numbers
+
+-- Where the margin is 0, m is 1/2^57.
+pub lower-without-margin : (m : List Rule) (s g : ℕ) (u l : Vector) → IsModel s g m → Uppers m s g u → Lowers m s g u l
+    → margin m s g u ≡ 0 → (k p z q : ℕ) → p < s → z < g → q < s
+    → l p z q * 65536 ^ (2 ^ k - 1) * (2 ^ 57) ^ k
+    ≤ chance m (2 ^ k - 1) p z q * 2 ^ 20 * (2 ^ 57) ^ k + (2 ^ 57 - 1) ^ k * u p z q * 65536 ^ (2 ^ k - 1)
+unfolding stepsOf kept
+lower-without-margin m s g u l model uppers lowers e k p z q hp hz hq = rw e at (lower-holds m s g u l model uppers lowers k p z q hp hz hq)
+
+-- Elsewhere m is the margin over 2^20.
+pub lower-with-margin : (m : List Rule) (s g : ℕ) (u l : Vector) (a : ℕ) → IsModel s g m → Uppers m s g u → Lowers m s g u l
+    → margin m s g u ≡ suc a → (k p z q : ℕ) → p < s → z < g → q < s
+    → l p z q * 65536 ^ (2 ^ k - 1) * (2 ^ 20) ^ k
+    ≤ chance m (2 ^ k - 1) p z q * 2 ^ 20 * (2 ^ 20) ^ k + (2 ^ 20 - suc a) ^ k * u p z q * 65536 ^ (2 ^ k - 1)
+unfolding stepsOf kept
+lower-with-margin m s g u l a model uppers lowers e k p z q hp hz hq = rw e at (lower-holds m s g u l model uppers lowers k p z q hp hz hq)

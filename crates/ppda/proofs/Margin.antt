@@ -11,7 +11,7 @@ use Rattle.ppda.specs.Equations.{Vector, f}
 use Rattle.ppda.specs.Live.{alive}
 use Rattle.ppda.specs.Margin.{share, shareAt, margin, whole, kept}
 use Rattle.ppda.specs.Bounds.{Uppers, Lowers, LowerAt}
-use Rattle.ppda.proofs.Sums.{leastTo-le-top, leastTo-le-term}
+use Rattle.ppda.proofs.Sums.{leastTo-le-top, leastTo-le-term, leastTo-greatest}
 use Rattle.ppda.proofs.Marks.{alive-or-dead}
 
 -- The m of point 3 is never 0: what is taken from the lower vanishes as k grows.
@@ -21,6 +21,7 @@ kept-below-whole zero = lit< tt
 kept-below-whole (suc a) = omega arith
 
 module _ (m : List Rule) (s g : ℕ) (u : Vector) where
+  -- The margin is at most 2^20 and at most every live entry's share.
   pub margin-le-top : margin m s g u ≤ 2 ^ 20
   unfolding margin
   margin-le-top = leastTo-le-top (2 ^ 20) _ s
@@ -30,6 +31,21 @@ module _ (m : List Rule) (s g : ℕ) (u : Vector) where
   unfolding margin
   margin-le-share p z q hp hz hq =
       le-trans (leastTo-le-term (2 ^ 20) _ s p hp) (le-trans (leastTo-le-term (2 ^ 20) _ g z hz) (leastTo-le-term (2 ^ 20) _ s q hq))
+
+  -- The margin is the greatest such number.
+  pub margin-greatest : (a : ℕ) → a ≤ 2 ^ 20
+      → ((p z q : ℕ) → p < s → z < g → q < s → alive m s g p z q ≡ 1 → a ≤ share (u p z q) (f m s (2 ^ 20) u p z q))
+      → a ≤ margin m s g u
+  unfolding margin shareAt
+  margin-greatest a top e =
+      leastTo-greatest (2 ^ 20) _ s a top
+      (λ p hp. leastTo-greatest (2 ^ 20) _ g a top
+      (λ z hz. leastTo-greatest (2 ^ 20) _ s a top (λ q hq. go p z q hp hz hq (alive-or-dead m s g p z q))))
+    where
+      go : (p z q : ℕ) → p < s → z < g → q < s → (alive m s g p z q ≡ 1) ⊎ (alive m s g p z q ≡ 0)
+          → a ≤ shareAt (alive m s g p z q) (u p z q) (f m s (2 ^ 20) u p z q)
+      go p z q hp hz hq (inl live) = rw live (e p z q hp hz hq live)
+      go p z q hp hz hq (inr dead) = rw dead top
 
 -- x is u in 1/2^56, y is f(u). A share of at least a/2^20 leaves y at most the rest of x.
 of-share : (a u y : ℕ) → 0 < u * 2 ^ 36 → a ≤ share u y → y ≤ u * 2 ^ 36 → y * 2 ^ 20 + a * (u * 2 ^ 36) ≤ u * 2 ^ 36 * 2 ^ 20

@@ -196,16 +196,16 @@ module _ (m : List Rule) (s g : ℕ) (model : IsModel s g m) where
   settled-or-more zero = settled-or-one-more 0 (omega arith)
   settled-or-more (suc k) = elim (settled-or-more k) [ inl a ↦ inl (settled-suc k a) | inr b ↦ settled-or-one-more (suc k) b ]
 
-  settled : Settled m s g (s * g * s)
-  settled = elim (settled-or-more (s * g * s)) [
+  settled : (k : ℕ) → s * g * s ≤ k → Settled m s g k
+  settled k enough = elim (settled-or-more k) [
     | inl a ↦ a
-    | inr b ↦ absurd (omega (arith, count-le s g (mark m s (suc (s * g * s))) (mark-is-bit m s (suc (s * g * s)))))
+    | inr b ↦ absurd (omega (arith, count-le s g (mark m s (suc k)) (mark-is-bit m s (suc k))))
   ]
 
   -- The live marks are closed under a round.
   pub alive-closed : (p z q : ℕ) → Inside s g p z q → 0 < f m s 1 (alive m s g) p z q → 0 < alive m s g p z q
   unfolding alive
-  alive-closed p z q n c = settled p z q n (mark-suc m s (s * g * s) p z q .1 c)
+  alive-closed p z q n c = settled _ (omega arith) p z q n (mark-suc m s _ p z q .1 c)
 
   marks-alive : (k p z q : ℕ) → Inside s g p z q → 0 < mark m s k p z q → 0 < alive m s g p z q
   marks-alive zero p z q n c = no-mark m s p z q c
@@ -216,9 +216,12 @@ module _ (m : List Rule) (s g : ℕ) (model : IsModel s g m) where
   pub rounds-enough : (k p z q : ℕ) → p < s → z < g → q < s → mark m s k p z q ≤ alive m s g p z q
   rounds-enough k p z q a b c = bit-le _ _ (mark-is-bit m s k p z q) (marks-alive k p z q (a, b, c))
 
-pub alive-or-dead : (m : List Rule) (s g p z q : ℕ) → (alive m s g p z q ≡ 1) ⊎ (alive m s g p z q ≡ 0)
+pub alive-is-bit : (m : List Rule) (s g p z q : ℕ) → alive m s g p z q ≤ 1
 unfolding alive
-alive-or-dead m s g p z q = elim (eq-zero-or-pos (mark m s (s * g * s) p z q)) [
+alive-is-bit m s g p z q = mark-is-bit m s _ p z q
+
+pub alive-or-dead : (m : List Rule) (s g p z q : ℕ) → (alive m s g p z q ≡ 1) ⊎ (alive m s g p z q ≡ 0)
+alive-or-dead m s g p z q = elim (eq-zero-or-pos (alive m s g p z q)) [
   | inl a ↦ inr a
-  | inr b ↦ inl (omega (arith, mark-is-bit m s (s * g * s) p z q))
+  | inr b ↦ inl (omega (arith, alive-is-bit m s g p z q))
 ]

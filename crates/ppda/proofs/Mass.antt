@@ -1,4 +1,4 @@
--- The total mass of the runs that the mean counts (theorem f): where each row's weights sum to 65,536, the runs that return within n
+-- The total mass of the runs that the mean counts: where each row's weights sum to 65,536, the runs that return within n
 -- steps and the runs of exactly n steps that have not returned have the chance 1 in all.
 use Prim.Native.Nat.{ℕ, zero, suc, _*_, _^_, _<_}
 use native.Mathlib.Nat.{mul-comm, mul-one, pow-succ'}

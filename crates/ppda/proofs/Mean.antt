@@ -1,5 +1,5 @@
--- Mission point 3, the mean steps (theorem d; document 001, Theorems 7 and 8): where the figures are at least the right side, every mean
--- of steps counted to n is at most the figure. By induction on n, with the mean of one stack over another bounded as in `Stacks`.
+-- Mission point 3, the mean steps (document 001, Theorems 7 and 8): where a row's figure is at least the right side, every mean of steps
+-- counted to n is at most the figure. By induction on n, with the mean of one stack over another bounded as in `Stacks`.
 use Prim.Native.Nat.{ℕ, zero, suc, _+_, _*_, _^_, _≤_, _<_, zero-le}
 use native.Mathlib.Nat.{le-refl, add-le-add, le-of-mul-le-mul-left, mul-le-mul, mul-le-mul-left, mul-le-mul-right, one-mul, mul-zero, zero-mul, mul-add, pow-succ'}
 use native.Mathlib.Numerals.{one-add}
@@ -11,7 +11,7 @@ use lib.ListN.{length}
 use Rattle.ppda.specs.Sums.{In}
 use Rattle.ppda.specs.Rules.{Rule, Push, nothing, one, two, overRow, pushed, Below, IsModel}
 use Rattle.ppda.specs.Chances.{counted, mean}
-use Rattle.ppda.specs.Equations.{Vector, Figures, stepsThrough, meanSide}
+use Rattle.ppda.specs.Equations.{Vector, RowVector, stepsThrough, meanSide}
 use Rattle.ppda.specs.Bounds.{Uppers, Means, MeanHolds}
 use Rattle.ppda.proofs.Sums.{sumTo-scaled}
 use Rattle.ppda.proofs.Rows.{row-mono, row-cong, row-add, row-mul, row-combined, row-scaled}
@@ -103,7 +103,7 @@ two-step : (e d h x a c y b : ℕ) → 0 < e → e * x ≤ e * a + c → a * h �
 two-step e d h x a c y b he split first second =
     le-of-mul-le-mul-left {k = e} (omega (arith, mul-le-mul-right (h * d) split, mul-le-mul-right (d * e) first)) he
 
-pub mean-holds : (m : List Rule) (s g : ℕ) (u : Vector) (r : Figures) → IsModel s g m → Uppers m s g u → Means m s g u r → MeanHolds m s g r
+pub mean-holds : (m : List Rule) (s g : ℕ) (u : Vector) (r : RowVector) → IsModel s g m → Uppers m s g u → Means m s g u r → MeanHolds m s g r
 unfolding followed meanSide
 mean-holds m s g u r model uppers means zero p z hp hz = simp (mean-zero m s g model, zero-mul) zero-le
 mean-holds m s g u r model uppers means (suc n) p z hp hz =

@@ -3,10 +3,23 @@ use Prim.Native.Nat.{ℕ, _+_, _*_, _≤_}
 use native.Mathlib.Nat.{mul-le-mul-left, mul-one, mul-comm}
 use native.Mathlib.Omega.{arith}
 use mathlib.Core.Path.{_≡_, sym, ap, _∙_, fun-ext}
+use mathlib.Core.Bool.{true, and-eq-true-iff}
 use mathlib.Core.List.{List}
+use mathlib.Core.Logic.{_↔_}
+use lib.Dec.{eqb}
+use borrow.Author.Tests.{eqb-true, eq-eqb}
 use Rattle.ppda.specs.Sums.{bit, sumTo, In}
 use Rattle.ppda.specs.Rules.{Rule, fits, overRow}
 use Rattle.ppda.proofs.Sums.{sum-cong, sum-mono, sum-add, sum-mul, sum-swap, sumTo-mul}
+
+-- A rule is for one state and one top.
+pub fits-exactly : (r : Rule) (p z : ℕ) → (fits r p z ≡ true) ↔ ((r .state ≡ p) × (r .symbol ≡ z))
+unfolding fits
+fits-exactly r p z =
+    let both = and-eq-true-iff (eqb (r .state) p) (eqb (r .symbol) z) in (
+      λ e. let h = both .0 e in (eqb-true (r .state) p (h .0), eqb-true (r .symbol) z (h .1)),
+      λ h. both .1 (eq-eqb (r .state) p (h .0), eq-eqb (r .symbol) z (h .1)),
+    )
 
 module _ (m : List Rule) (p z : ℕ) where
   pub row-cong : (h k : Rule → ℕ) → ((r : Rule) → In r m → h r ≡ k r) → overRow m p z h ≡ overRow m p z k

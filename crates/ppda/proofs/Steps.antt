@@ -1,4 +1,4 @@
--- Sums over runs by their first step: the chance and the mean equal their one-step recursions, so a reader may trust either.
+-- Sums over runs by their first step: the chance equals its one-step recursion, so a reader may trust either, and so do the counted runs.
 use Prim.Native.Nat.{ℕ, zero, suc, _+_, _-_, _*_, _^_}
 use native.Mathlib.Nat.{add-zero, zero-add, add-mul, mul-add, zero-mul, mul-zero, mul-one, one-mul, mul-assoc, suc-sub-suc, sub-zero}
 use native.Mathlib.Omega.{arith}
@@ -95,7 +95,7 @@ module _ (m : List Rule) where
 add-add-add-comm : (a b c d : ℕ) → a + b + (c + d) ≡ a + c + (b + d)
 add-add-add-comm a b c d = omega arith
 
--- ---- the chance by its first step (theorem a)
+-- ---- the chance by its first step
 
 module _ (m : List Rule) where
   pub chance-zero : (p q z : ℕ) (σ : List ℕ) → chanceFrom m 0 p (z ∷ σ) q ≡ 0

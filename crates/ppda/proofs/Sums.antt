@@ -1,6 +1,6 @@
 -- The laws of sums and of least values.
 use Prim.Native.Nat.{ℕ, zero, suc, _+_, _*_, _≤_, _<_, min}
-use native.Mathlib.Nat.{le-refl, add-le-add, zero-add, mul-zero, zero-mul, eq-zero-or-pos, not-suc-le-zero, eq-or-lt-of-le, le-of-suc-le-suc}
+use native.Mathlib.Nat.{le-min, le-refl, add-le-add, zero-add, mul-zero, zero-mul, eq-zero-or-pos, not-suc-le-zero, eq-or-lt-of-le, le-of-suc-le-suc}
 use native.Mathlib.Omega.{arith}
 use mathlib.Core.Path.{_≡_, refl, sym, ap, ap₂, _∙_}
 use mathlib.Core.List.{List, [], _∷_, _++_, map, flatMap}
@@ -206,6 +206,11 @@ leastTo-le-term top h (suc n) i b = go (eq-or-lt-of-le (le-of-suc-le-suc b)) (λ
     go : (i ≡ n) ⊎ (i < n) → (i < n → leastTo top h n ≤ h i) → min (leastTo top h n) (h n) ≤ h i
     go (inl e) rest = rw e (omega arith)
     go (inr c) rest = let t : leastTo top h n ≤ h i = rest c in omega arith
+
+pub leastTo-greatest : (top : ℕ) (h : ℕ → ℕ) (n a : ℕ) → a ≤ top → ((i : ℕ) → i < n → a ≤ h i) → a ≤ leastTo top h n
+unfolding leastTo
+leastTo-greatest top h zero a t e = t
+leastTo-greatest top h (suc n) a t e = le-min (leastTo-greatest top h n a t (λ i b. e i (omega arith))) (e n (le-refl (suc n)))
 
 -- ---- products above 0
 

@@ -1,4 +1,4 @@
--- Mission point 3, the uppers (theorem b; document 001, Lemma 3): where u ≥ f(u) at every entry, every chance within n steps is at
+-- Mission point 3, the uppers (document 001, Lemma 3): where u ≥ f(u) at every entry, every chance within n steps is at
 -- most the upper. By induction on n: n + 1 steps are at most f of n steps, which is at most f(u).
 use Prim.Native.Nat.{ℕ, zero, suc, _*_, _^_, _≤_, _<_, zero-le}
 use native.Mathlib.Nat.{le-of-mul-le-mul-left, mul-le-mul-right, mul-pos, one-le-pow, zero-lt-suc, pow-succ', zero-mul}

@@ -6,10 +6,10 @@ use Rattle.ppda.specs.Sums.{sum, sumTo, sign, leastTo}
 use Rattle.ppda.specs.Rules.{fits, overRow}
 use Rattle.ppda.specs.Runs.{after, lists, weigh, overRuns, overRunsWithin}
 use Rattle.ppda.specs.Chances.{chance, chanceFrom, mean, counted}
-use Rattle.ppda.specs.Equations.{Vector, f}
+use Rattle.ppda.specs.Equations.{Vector, f, meanSide}
 use Rattle.ppda.specs.Live.{mark, alive}
 use Rattle.ppda.specs.Margin.{share, shareAt, margin}
-use Rattle.ppda.specs.W.{w, wUppers}
+use Rattle.ppda.specs.W.{w, wUppers, wLowers, wMeans}
 
 -- A vector's numbers in file order.
 abbrev pub listed : Vector → List ℕ
@@ -41,3 +41,14 @@ live-marks = refl
 pub margin-is : margin w 2 1 wUppers ≡ 45875
 unfolding margin leastTo shareAt share alive mark sign f overRow sum fits sumTo
 margin-is = refl
+
+-- The right sides of the mean steps' inequality, in 1/2^44 of a step.
+pub sides : (meanSide w 2 (2 ^ 20) (2 ^ 8) wUppers wMeans 0 0 ≡ 34084860461056)
+    × (meanSide w 2 (2 ^ 20) (2 ^ 8) wUppers wMeans 1 0 ≡ 17592186044416)
+unfolding meanSide overRow sum fits sumTo
+sides = (refl, refl)
+
+-- The bounds of document 01's printout.
+pub bounds : (listed wLowers ≡ 524288 ∷ 393216 ∷ 0 ∷ 1048576 ∷ []) × (listed wUppers ≡ 655360 ∷ 524288 ∷ 0 ∷ 1179648 ∷ [])
+    × (wMeans 0 0 ≡ 512) × (wMeans 1 0 ≡ 256)
+bounds = (refl, refl, refl, refl)

@@ -5,7 +5,7 @@ use mathlib.Core.List.{List}
 use mathlib.Core.Path.{_≡_}
 use Rattle.ppda.specs.Rules.{Rule}
 use Rattle.ppda.specs.Chances.{chance, mean}
-use Rattle.ppda.specs.Equations.{Vector, Figures, f, meanSide}
+use Rattle.ppda.specs.Equations.{Vector, RowVector, f, meanSide}
 use Rattle.ppda.specs.Live.{alive}
 use Rattle.ppda.specs.Margin.{whole, kept}
 
@@ -22,15 +22,16 @@ pub record LowerAt (m : List Rule) (s g : ℕ) (u l : Vector) (p z q : ℕ) : Ty
   pub strict : alive m s g p z q ≡ 1 → f m s (2 ^ 20) u p z q < u p z q * 2 ^ 36
   pub dead : alive m s g p z q ≡ 0 → u p z q ≡ 0
 
+-- Lowers at every entry.
 abbrev pub Lowers : List Rule → ℕ → ℕ → Vector → Vector → Type 0
 Lowers m s g u l = (p z q : ℕ) → p < s → z < g → q < s → LowerAt m s g u l p z q
 
 -- Mean steps (document 001, Theorem 8): the figure of a row is at least the right side, by the uppers of the same certificate.
-abbrev pub Means : List Rule → ℕ → ℕ → Vector → Figures → Type 0
+abbrev pub Means : List Rule → ℕ → ℕ → Vector → RowVector → Type 0
 Means m s g u r = (p z : ℕ) → p < s → z < g → meanSide m s (2 ^ 20) (2 ^ 8) u r p z ≤ r p z * 2 ^ 36
 
 -- A certificate with all three blocks.
-pub record Certificate (m : List Rule) (s g : ℕ) (u l : Vector) (r : Figures) : Type 0 where
+pub record Certificate (m : List Rule) (s g : ℕ) (u l : Vector) (r : RowVector) : Type 0 where
   pub uppers : Uppers m s g u
   pub lowers : Lowers m s g u l
   pub means : Means m s g u r
@@ -39,7 +40,7 @@ pub record Certificate (m : List Rule) (s g : ℕ) (u l : Vector) (r : Figures) 
 abbrev pub UpperHolds : List Rule → ℕ → ℕ → Vector → Type 0
 UpperHolds m s g u = (n p z q : ℕ) → p < s → z < g → q < s → chance m n p z q * 2 ^ 20 ≤ u p z q * 65536 ^ n
 
--- How many steps the runs have that k rounds of f from zero hold.
+-- The most steps of a run that k rounds of f from zero hold (theorems `scale-is` and `rounds-le-chance`).
 unfoldable pub stepsOf : ℕ → ℕ
 stepsOf k = 2 ^ k - 1
 
@@ -51,5 +52,5 @@ LowerHolds m s g u l a =
     ≤ chance m (stepsOf k) p z q * 2 ^ 20 * whole a ^ k + kept a ^ k * u p z q * 65536 ^ stepsOf k
 
 -- "Every mean of steps counted to n is at most the figure."
-abbrev pub MeanHolds : List Rule → ℕ → ℕ → Figures → Type 0
+abbrev pub MeanHolds : List Rule → ℕ → ℕ → RowVector → Type 0
 MeanHolds m s g r = (n p z : ℕ) → p < s → z < g → mean m n p z * 2 ^ 8 ≤ r p z * 65536 ^ n

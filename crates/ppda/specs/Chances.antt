@@ -31,7 +31,8 @@ underWay (some (at p (z ∷ σ))) = 1
 unfoldable pub chanceFrom : List Rule → ℕ → ℕ → List ℕ → ℕ → ℕ
 chanceFrom m n p σ q = overRunsWithin (λ l c. returnedIn q c) m n p σ
 
--- The chance of the entry (p, z, q) within n steps. "Entry" is document 01's term for the return chance [pZ|q] of document 001.
+-- The chance of the entry (p, z, q) within n steps. "Entry" is document 01's term, and "exit" the mission's, for the return chance [pZ|q]
+-- of document 001.
 abbrev pub chance : List Rule → ℕ → ℕ → ℕ → ℕ → ℕ
 chance m n p z q = chanceFrom m n p (z ∷ []) q
 

@@ -6,18 +6,20 @@ use lib.ListN.{getD}
 use Rattle.ppda.specs.Sums.{bit, sumTo}
 use Rattle.ppda.specs.Rules.{Rule, Push, nothing, one, two, overRow}
 
--- A number for each entry (p, z, q), and a number for each row (p, z).
+-- A number for each entry (p, z, q): uppers, lowers or chances.
 abbrev pub Vector : Type 0
 Vector = ℕ → ℕ → ℕ → ℕ
 
-abbrev pub Figures : Type 0
-Figures = ℕ → ℕ → ℕ
+-- A number for each row (p, z): mean steps, document 01's R.
+abbrev pub RowVector : Type 0
+RowVector = ℕ → ℕ → ℕ
 
--- The vector of a list in file order: entries ascend by (p, z, q), rows by (p, z).
+-- The vector of a list in file order: entries ascend by (p, z, q).
 abbrev pub entries : ℕ → ℕ → List ℕ → Vector
 entries s g l p z q = getD l ((p * g + z) * s + q) 0
 
-abbrev pub rows : ℕ → List ℕ → Figures
+-- The same for rows, which ascend by (p, z).
+abbrev pub rows : ℕ → List ℕ → RowVector
 rows g l p z = getD l (p * g + z) 0
 
 -- From state r with a rule's pushed symbols alone, the chance v of emptying the stack in q. v counts 1/d, and this 1/(d·d).
@@ -30,14 +32,14 @@ through s d v r (two y x) q = sumTo (λ t. v r y t * v t x q) s
 unfoldable pub f : List Rule → ℕ → ℕ → Vector → Vector
 f m s d v p z q = overRow m p z (λ r. through s d v (r .target) (r .push) q)
 
--- From state r with a rule's pushed symbols alone, the mean steps by the figures e and the chances u. u counts 1/d, e counts 1/h,
--- and this 1/(d·h).
-abbrev pub stepsThrough : ℕ → ℕ → Vector → Figures → ℕ → Push → ℕ
+-- From state r with a rule's pushed symbols alone, the mean steps by the rows' mean steps e and the chances u. u counts 1/d, e counts
+-- 1/h, and this 1/(d·h).
+abbrev pub stepsThrough : ℕ → ℕ → Vector → RowVector → ℕ → Push → ℕ
 stepsThrough s d u e r nothing = 0
 stepsThrough s d u e r (one y) = d * e r y
 stepsThrough s d u e r (two y x) = d * e r y + sumTo (λ t. u r y t * e t x) s
 
 -- The right side of the mean steps' inequality (document 001, Theorems 7 and 8; spelled out in document 01): 1 plus, over the
 -- rules, the chance times the mean steps of what is pushed. It counts 1/(65536·d·h).
-unfoldable pub meanSide : List Rule → ℕ → ℕ → ℕ → Vector → Figures → Figures
+unfoldable pub meanSide : List Rule → ℕ → ℕ → ℕ → Vector → RowVector → RowVector
 meanSide m s d h u e p z = 65536 * (d * h) + overRow m p z (λ r. stepsThrough s d u e (r .target) (r .push))

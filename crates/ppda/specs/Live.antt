@@ -15,11 +15,12 @@ pub record Live (m : List Rule) (p z q : ℕ) : Type 0 where
   pub listed : In run (lists m steps)
   pub empties : after p (z ∷ []) run ≡ some (at q [])
 
--- k rounds of f from zero everywhere, exact: the value after k rounds counts 1/(scale k).
+-- What k rounds of f from zero everywhere count: 1/(scale k).
 unfoldable pub scale : ℕ → ℕ
 scale zero = 1
 scale (suc k) = 65536 * (scale k * scale k)
 
+-- k rounds of f from zero everywhere, exact.
 unfoldable pub rounds : List Rule → ℕ → ℕ → Vector
 rounds m s zero = λ p z q. 0
 rounds m s (suc k) = f m s (scale k) (rounds m s k)

@@ -10,25 +10,28 @@ use Rattle.ppda.specs.Live.{alive}
 unfoldable pub share : ℕ → ℕ → ℕ
 share u y = (u * 2 ^ 36 - y) * 2 ^ 20 / (u * 2 ^ 36)
 
--- An entry's part in the margin: the share of a live entry. A dead one leaves the margin as it is.
+-- An entry's part in the margin, by its live mark: the share of a live entry. A dead one leaves the margin as it is.
 unfoldable pub shareAt : ℕ → ℕ → ℕ → ℕ
 shareAt zero u y = 2 ^ 20
 shareAt (suc a) u y = share u y
 
--- The margin: the least share over the live entries, and 2^20 where nothing is live.
+-- The margin: the least share over the live entries, and 2^20 where nothing is live. The least of the rounded shares is the least share
+-- rounded.
 unfoldable pub margin : List Rule → ℕ → ℕ → Vector → ℕ
 margin m s g u =
     leastTo (2 ^ 20)
     (λ p. leastTo (2 ^ 20) (λ z. leastTo (2 ^ 20) (λ q. shareAt (alive m s g p z q) (u p z q) (f m s (2 ^ 20) u p z q)) s) g) s
 
--- The m of mission point 3 for a margin: margin/2^20, or 1/2^57 where the margin is 0. It is part/whole, and 1 − m is kept/whole.
+-- The m of mission point 3 for a margin is part/whole: margin/2^20, or 1/2^57 where the margin is 0.
 abbrev pub part : ℕ → ℕ
 part zero = 1
 part (suc a) = suc a
 
+-- The denominator of m.
 abbrev pub whole : ℕ → ℕ
 whole zero = 2 ^ 57
 whole (suc a) = 2 ^ 20
 
+-- 1 − m is kept/whole.
 unfoldable pub kept : ℕ → ℕ
 kept a = whole a - part a

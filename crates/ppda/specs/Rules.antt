@@ -47,7 +47,8 @@ pub record IsRule (s g : ℕ) (r : Rule) : Type 0 where
   pub push : Below g (pushed (r .push))
   pub weight : 0 < r .weight
 
--- The list of rules is a model with s states and g symbols: the weights of each row sum to 65,536.
+-- The list of rules is a model with s states and g symbols: the weights of each row sum to 65,536. What document 01 asks of a file
+-- besides (the order of its records, its length and its limits on states and symbols) has no part in the theory.
 pub record IsModel (s g : ℕ) (m : List Rule) : Type 0 where
   pub rule : (r : Rule) → In r m → IsRule s g r
   pub row : (p z : ℕ) → p < s → z < g → overRow m p z (λ r. 1) ≡ 65536

@@ -1,5 +1,5 @@
--- Runs (document 01, "Equations": "a run … is a list of records, each for the state and the top at hand"), and sums over all
--- runs of a length. They are the paths of document 001's section III.C.
+-- Runs, as lists of rules each for the state and the top at hand (document 01, "Equations"; the paths of document 001, section III.C), and
+-- sums over all runs of a length.
 use Prim.Native.Nat.{ℕ, zero, suc, _-_, _*_, _^_}
 use mathlib.Core.Bool.{cond}
 use mathlib.Core.List.{List, [], _∷_, _++_, map, flatMap}

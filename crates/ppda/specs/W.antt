@@ -2,19 +2,22 @@
 use Prim.Native.Nat.{ℕ}
 use mathlib.Core.List.{List, [], _∷_}
 use Rattle.ppda.specs.Rules.{Rule, Push, nothing, two}
-use Rattle.ppda.specs.Equations.{Vector, Figures, entries, rows}
+use Rattle.ppda.specs.Equations.{Vector, RowVector, entries, rows}
 
+-- A rule p Z → q with what it pushes and its weight.
 abbrev rule : ℕ → ℕ → ℕ → Push → ℕ → Rule
 rule p z q a w = record { state = p; symbol = z; target = q; push = a; weight = w }
 
+-- Its four records.
 abbrev pub w : List Rule
 w = rule 0 0 0 nothing 32768 ∷ rule 0 0 0 (two 0 0) 16384 ∷ rule 0 0 1 nothing 16384 ∷ rule 1 0 1 nothing 65536 ∷ []
 
+-- The uppers, the lowers and the mean steps of the printout.
 abbrev pub wUppers : Vector
 wUppers = entries 2 1 (655360 ∷ 524288 ∷ 0 ∷ 1179648 ∷ [])
 
 abbrev pub wLowers : Vector
 wLowers = entries 2 1 (524288 ∷ 393216 ∷ 0 ∷ 1048576 ∷ [])
 
-abbrev pub wFigures : Figures
-wFigures = rows 1 (512 ∷ 256 ∷ [])
+abbrev pub wMeans : RowVector
+wMeans = rows 1 (512 ∷ 256 ∷ [])

@@ -1,0 +1,86 @@
+-- A second example, where model W is too small: two states, two symbols and every kind of push, by computation; and the places of
+-- entries and rows in a file.
+use Prim.Native.Nat.{ℕ, _^_}
+use mathlib.Core.Path.{_≡_, refl}
+use mathlib.Core.List.{List, [], _∷_, flatMap}
+use lib.Dec.{lit<}
+use Rattle.ppda.specs.Sums.{sum, sumTo}
+use Rattle.ppda.specs.Rules.{Rule, Push, nothing, one, two, fits, overRow, IsRule, IsModel}
+use Rattle.ppda.specs.Runs.{after, lists, weigh, overRuns, overRunsWithin}
+use Rattle.ppda.specs.Chances.{chance, chanceFrom, mean, counted}
+use Rattle.ppda.specs.Equations.{Vector, RowVector, entries, rows, f, meanSide}
+use Rattle.ppda.proofs.Lists.{All, in-all, at-rows}
+
+abbrev rule : ℕ → ℕ → ℕ → Push → ℕ → Rule
+rule p z q a k = record { state = p; symbol = z; target = q; push = a; weight = k }
+
+abbrev pub v : List Rule
+v =
+    rule 0 0 0 (one 1) 16384 ∷ rule 0 0 1 nothing 32768 ∷ rule 0 0 1 (two 1 0) 16384 ∷ rule 0 1 0 nothing 65536
+    ∷ rule 1 0 1 (one 1) 65536 ∷ rule 1 1 0 nothing 16384 ∷ rule 1 1 1 nothing 49152 ∷ []
+
+-- The numbers of a vector, and of rows, in file order.
+abbrev pub listed : Vector → List ℕ
+listed x = x 0 0 0 ∷ x 0 0 1 ∷ x 0 1 0 ∷ x 0 1 1 ∷ x 1 0 0 ∷ x 1 0 1 ∷ x 1 1 0 ∷ x 1 1 1 ∷ []
+
+abbrev pub listedRows : RowVector → List ℕ
+listedRows x = x 0 0 ∷ x 0 1 ∷ x 1 0 ∷ x 1 1 ∷ []
+
+pub is-model : IsModel 2 2 v
+unfolding overRow sum fits
+is-model = record {
+  rule = in-all (IsRule 2 2) v rules;
+  row = at-rows 2 2 (λ p z. overRow v p z (λ r. 1) ≡ 65536) ((tt, ((tt, refl), refl)), ((tt, refl), refl));
+}
+  where
+    rules : All (IsRule 2 2) v
+    rules = (
+      record { state = lit< tt; symbol = lit< tt; target = lit< tt; push = (lit< tt, tt); weight = lit< tt },
+      (
+        record { state = lit< tt; symbol = lit< tt; target = lit< tt; push = tt; weight = lit< tt },
+        (
+          record { state = lit< tt; symbol = lit< tt; target = lit< tt; push = (lit< tt, (lit< tt, tt)); weight = lit< tt },
+          (
+            record { state = lit< tt; symbol = lit< tt; target = lit< tt; push = tt; weight = lit< tt },
+            (
+              record { state = lit< tt; symbol = lit< tt; target = lit< tt; push = (lit< tt, tt); weight = lit< tt },
+              (
+                record { state = lit< tt; symbol = lit< tt; target = lit< tt; push = tt; weight = lit< tt },
+                (record { state = lit< tt; symbol = lit< tt; target = lit< tt; push = tt; weight = lit< tt }, tt),
+              ),
+            ),
+          ),
+        ),
+      ),
+    )
+
+pub chances : listed (chance v 2)
+    ≡ 1073741824 ∷ 2147483648 ∷ 4294967296 ∷ 0 ∷ 1073741824 ∷ 3221225472 ∷ 1073741824 ∷ 3221225472 ∷ []
+unfolding chanceFrom overRunsWithin overRuns sumTo sum lists flatMap after weigh fits
+chances = refl
+
+pub means : listedRows (mean v 2) ≡ 6442450944 ∷ 4294967296 ∷ 8589934592 ∷ 4294967296 ∷ []
+unfolding counted overRunsWithin overRuns sumTo sum lists flatMap after weigh fits
+means = refl
+
+abbrev pub vUppers : Vector
+vUppers = entries 2 2 (1 ∷ 2 ∷ 3 ∷ 4 ∷ 5 ∷ 6 ∷ 7 ∷ 8 ∷ [])
+
+abbrev pub vMeans : RowVector
+vMeans = rows 2 (10 ∷ 20 ∷ 30 ∷ 40 ∷ [])
+
+pub f-is : listed (f v 2 (2 ^ 20) vUppers)
+    ≡ 51540377600 ∷ 36028865739456512 ∷ 72057594037927936 ∷ 0 ∷ 481036337152 ∷ 549755813888 ∷ 18014398509481984 ∷ 54043195528445952 ∷ []
+unfolding f overRow sum fits sumTo
+f-is = refl
+
+pub sides : listedRows (meanSide v 2 (2 ^ 20) (2 ^ 8) vUppers vMeans) ≡ 18622983274496 ∷ 17592186044416 ∷ 20340965113856 ∷ 17592186044416 ∷ []
+unfolding meanSide overRow sum fits sumTo
+sides = refl
+
+-- With two states and three symbols, entry (p, z, q) has the place (p × 3 + z) × 2 + q, and row (p, z) the place p × 3 + z.
+abbrev upTo12 : List ℕ
+upTo12 = 0 ∷ 1 ∷ 2 ∷ 3 ∷ 4 ∷ 5 ∷ 6 ∷ 7 ∷ 8 ∷ 9 ∷ 10 ∷ 11 ∷ []
+
+pub places : (entries 2 3 upTo12 0 1 1 ≡ 3) × (entries 2 3 upTo12 1 2 0 ≡ 10) × (rows 3 upTo12 1 0 ≡ 3) × (rows 3 upTo12 0 2 ≡ 2)
+places = (refl, refl, refl, refl)
