@@ -5,14 +5,11 @@ use mathlib.Core.Path.{_≡_, refl}
 use mathlib.Core.List.{List, [], _∷_, flatMap}
 use lib.Dec.{lit<}
 use Rattle.ppda.specs.Sums.{sum, sumTo}
-use Rattle.ppda.specs.Rules.{Rule, Push, nothing, one, two, fits, overRow, IsRule, IsModel}
+use Rattle.ppda.specs.Rules.{Rule, rule, nothing, one, two, fits, overRow, IsRule, IsModel}
 use Rattle.ppda.specs.Runs.{after, lists, weigh, overRuns, overRunsWithin}
 use Rattle.ppda.specs.Chances.{chance, chanceFrom, mean, counted}
 use Rattle.ppda.specs.Equations.{Vector, RowVector, entries, rows, f, meanSide}
 use Rattle.ppda.proofs.Lists.{All, in-all, at-rows}
-
-abbrev rule : ℕ → ℕ → ℕ → Push → ℕ → Rule
-rule p z q a k = record { state = p; symbol = z; target = q; push = a; weight = k }
 
 abbrev pub v : List Rule
 v =

@@ -4,7 +4,7 @@ use native.Mathlib.Omega.{arith}
 use mathlib.Core.Path.{_≡_, refl}
 use lib.Dec.{lit<, lit≤}
 use Rattle.ppda.specs.Sums.{sum, sumTo, sign}
-use Rattle.ppda.specs.Rules.{nothing, two, fits, overRow, IsRule, IsModel}
+use Rattle.ppda.specs.Rules.{rule, nothing, two, fits, overRow, IsRule, IsModel}
 use Rattle.ppda.specs.Equations.{f, meanSide}
 use Rattle.ppda.specs.Live.{Live, mark, alive}
 use Rattle.ppda.specs.Bounds.{LowerAt, Certificate}
@@ -12,7 +12,7 @@ use Rattle.ppda.specs.W.{w, wUppers, wLowers, wMeans}
 use Rattle.ppda.proofs.Lists.{All, in-all, at-rows, at-entries}
 use Rattle.ppda.proofs.Live.{live-by-rounds}
 
-returning : (p q k : ℕ) → p < 2 → q < 2 → 0 < k → IsRule 2 1 record { state = p; symbol = 0; target = q; push = nothing; weight = k }
+returning : (p q k : ℕ) → p < 2 → q < 2 → 0 < k → IsRule 2 1 (rule p 0 q nothing k)
 returning p q k hp hq hk = record { state = hp; symbol = lit< tt; target = hq; push = tt; weight = hk }
 
 pub is-model : IsModel 2 1 w
@@ -20,7 +20,7 @@ unfolding overRow sum fits
 is-model =
     record { rule = in-all (IsRule 2 1) w rules; row = at-rows 2 1 (λ p z. overRow w p z (λ r. 1) ≡ 65536) ((tt, (tt, refl)), (tt, refl)) }
   where
-    calling : IsRule 2 1 record { state = 0; symbol = 0; target = 0; push = two 0 0; weight = 16384 }
+    calling : IsRule 2 1 (rule 0 0 0 (two 0 0) 16384)
     calling = record { state = lit< tt; symbol = lit< tt; target = lit< tt; push = (lit< tt, (lit< tt, tt)); weight = lit< tt }
 
     rules : All (IsRule 2 1) w

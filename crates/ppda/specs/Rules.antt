@@ -26,6 +26,10 @@ pub record Rule : Type 0 where
   pub push : Push
   pub weight : ℕ
 
+-- The rule p z → q with what it pushes and its weight.
+abbrev pub rule : ℕ → ℕ → ℕ → Push → ℕ → Rule
+rule p z q a k = record { state = p; symbol = z; target = q; push = a; weight = k }
+
 -- The rule is for state p and top z: it belongs to the row (p, z). "Row" is document 01's term for such a pair.
 unfoldable pub fits : Rule → ℕ → ℕ → Bool
 fits r p z = eqb (r .state) p && eqb (r .symbol) z

@@ -1,12 +1,7 @@
 -- Model W of document 01: document 001's Figure 1 with state p as 0, q as 1 and Z as 0; and the certificate that it prints.
-use Prim.Native.Nat.{ℕ}
 use mathlib.Core.List.{List, [], _∷_}
-use Rattle.ppda.specs.Rules.{Rule, Push, nothing, two}
+use Rattle.ppda.specs.Rules.{Rule, rule, nothing, two}
 use Rattle.ppda.specs.Equations.{Vector, RowVector, entries, rows}
-
--- A rule p Z → q with what it pushes and its weight.
-abbrev rule : ℕ → ℕ → ℕ → Push → ℕ → Rule
-rule p z q a w = record { state = p; symbol = z; target = q; push = a; weight = w }
 
 -- Its four records.
 abbrev pub w : List Rule
