@@ -9,12 +9,13 @@ use Rattle.ppda.specs.Rules.{Rule, rule, nothing, one, two, fits, overRo
 use Rattle.ppda.specs.Runs.{after, lists, weigh, overRuns, overRunsWithin}
 use Rattle.ppda.specs.Chances.{chance, chanceFrom, mean, counted}
 use Rattle.ppda.specs.Equations.{Vector, RowVector, entries, rows, f, meanSide}
+use Rattle.ppda.proofs.Rows.{is-rule}
 use Rattle.ppda.proofs.Lists.{All, in-all, at-rows}
 
 abbrev pub v : List Rule
 v =
     rule 0 0 0 (one 1) 16384 ∷ rule 0 0 1 nothing 32768 ∷ rule 0 0 1 (two 1 0) 16384 ∷ rule 0 1 0 nothing 65536
-    ∷ rule 1 0 1 (one 1) 65536 ∷ rule 1 1 0 nothing 16384 ∷ rule 1 1 1 nothing 49152 ∷ []
+    ∷ rule 1 0 0 (two 0 1) 32768 ∷ rule 1 0 1 (one 1) 32768 ∷ rule 1 1 0 nothing 16384 ∷ rule 1 1 1 nothing 49152 ∷ []
 
 -- The numbers of a vector, and of rows, in file order.
 abbrev pub listed : Vector → List ℕ
@@ -32,18 +33,21 @@ is-model = record {
   where
     rules : All (IsRule 2 2) v
     rules = (
-      record { state = lit< tt; symbol = lit< tt; target = lit< tt; push = (lit< tt, tt); weight = lit< tt },
+      is-rule 2 2 0 0 0 (one 1) 16384 (lit< tt) (lit< tt) (lit< tt) (lit< tt, tt) (lit< tt),
       (
-        record { state = lit< tt; symbol = lit< tt; target = lit< tt; push = tt; weight = lit< tt },
+        is-rule 2 2 0 0 1 nothing 32768 (lit< tt) (lit< tt) (lit< tt) tt (lit< tt),
         (
-          record { state = lit< tt; symbol = lit< tt; target = lit< tt; push = (lit< tt, (lit< tt, tt)); weight = lit< tt },
+          is-rule 2 2 0 0 1 (two 1 0) 16384 (lit< tt) (lit< tt) (lit< tt) (lit< tt, (lit< tt, tt)) (lit< tt),
           (
-            record { state = lit< tt; symbol = lit< tt; target = lit< tt; push = tt; weight = lit< tt },
+            is-rule 2 2 0 1 0 nothing 65536 (lit< tt) (lit< tt) (lit< tt) tt (lit< tt),
             (
-              record { state = lit< tt; symbol = lit< tt; target = lit< tt; push = (lit< tt, tt); weight = lit< tt },
+              is-rule 2 2 1 0 0 (two 0 1) 32768 (lit< tt) (lit< tt) (lit< tt) (lit< tt, (lit< tt, tt)) (lit< tt),
               (
-                record { state = lit< tt; symbol = lit< tt; target = lit< tt; push = tt; weight = lit< tt },
-                (record { state = lit< tt; symbol = lit< tt; target = lit< tt; push = tt; weight = lit< tt }, tt),
+                is-rule 2 2 1 0 1 (one 1) 32768 (lit< tt) (lit< tt) (lit< tt) (lit< tt, tt) (lit< tt),
+                (
+                  is-rule 2 2 1 1 0 nothing 16384 (lit< tt) (lit< tt) (lit< tt) tt (lit< tt),
+                  (is-rule 2 2 1 1 1 nothing 49152 (lit< tt) (lit< tt) (lit< tt) tt (lit< tt), tt),
+                ),
               ),
             ),
           ),
@@ -51,8 +55,7 @@ is-model = record {
       ),
     )
 
-pub chances : listed (chance v 2)
-    ≡ 1073741824 ∷ 2147483648 ∷ 4294967296 ∷ 0 ∷ 1073741824 ∷ 3221225472 ∷ 1073741824 ∷ 3221225472 ∷ []
+pub chances : listed (chance v 2) ≡ 1073741824 ∷ 2147483648 ∷ 4294967296 ∷ 0 ∷ 536870912 ∷ 1610612736 ∷ 1073741824 ∷ 3221225472 ∷ []
 unfolding chanceFrom overRunsWithin overRuns sumTo sum lists flatMap after weigh fits
 chances = refl
 
@@ -67,17 +70,18 @@ abbrev pub vMeans : RowVector
 vMeans = rows 2 (10 ∷ 20 ∷ 30 ∷ 40 ∷ [])
 
 pub f-is : listed (f v 2 (2 ^ 20) vUppers)
-    ≡ 51540377600 ∷ 36028865739456512 ∷ 72057594037927936 ∷ 0 ∷ 481036337152 ∷ 549755813888 ∷ 18014398509481984 ∷ 54043195528445952 ∷ []
+    ≡ 51540377600 ∷ 36028865739456512 ∷ 72057594037927936 ∷ 0 ∷ 240518725632 ∷ 274878562304 ∷ 18014398509481984 ∷ 54043195528445952 ∷ []
 unfolding f overRow sum fits sumTo
 f-is = refl
 
-pub sides : listedRows (meanSide v 2 (2 ^ 20) (2 ^ 8) vUppers vMeans) ≡ 18622983274496 ∷ 17592186044416 ∷ 20340965113856 ∷ 17592186044416 ∷ []
+pub sides : listedRows (meanSide v 2 (2 ^ 20) (2 ^ 8) vUppers vMeans) ≡ 18622983274496 ∷ 17592186044416 ∷ 19310176239616 ∷ 17592186044416 ∷ []
 unfolding meanSide overRow sum fits sumTo
 sides = refl
 
--- With two states and three symbols, entry (p, z, q) has the place (p × 3 + z) × 2 + q, and row (p, z) the place p × 3 + z.
+-- With s states and g symbols, entry (p, z, q) has the place (p × g + z) × s + q, and row (p, z) the place p × g + z.
 abbrev upTo12 : List ℕ
 upTo12 = 0 ∷ 1 ∷ 2 ∷ 3 ∷ 4 ∷ 5 ∷ 6 ∷ 7 ∷ 8 ∷ 9 ∷ 10 ∷ 11 ∷ []
 
-pub places : (entries 2 3 upTo12 0 1 1 ≡ 3) × (entries 2 3 upTo12 1 2 0 ≡ 10) × (rows 3 upTo12 1 0 ≡ 3) × (rows 3 upTo12 0 2 ≡ 2)
-places = (refl, refl, refl, refl)
+pub places : (entries 2 3 upTo12 0 1 1 ≡ 3) × (entries 2 3 upTo12 1 2 0 ≡ 10) × (entries 3 2 upTo12 1 1 2 ≡ 11)
+    × (rows 3 upTo12 1 0 ≡ 3) × (rows 3 upTo12 0 2 ≡ 2) × (rows 2 upTo12 2 1 ≡ 5)
+places = (refl, refl, refl, refl, refl, refl)

@@ -1,5 +1,5 @@
 -- The laws of sums over the rules of a row.
-use Prim.Native.Nat.{ℕ, _+_, _*_, _≤_}
+use Prim.Native.Nat.{ℕ, _<_, _+_, _*_, _≤_}
 use native.Mathlib.Nat.{mul-le-mul-left, mul-one, mul-comm}
 use native.Mathlib.Omega.{arith}
 use mathlib.Core.Path.{_≡_, sym, ap, _∙_, fun-ext}
@@ -9,8 +9,12 @@ use mathlib.Core.Logic.{_↔_}
 use lib.Dec.{eqb}
 use borrow.Author.Tests.{eqb-true, eq-eqb}
 use Rattle.ppda.specs.Sums.{bit, sumTo, In}
-use Rattle.ppda.specs.Rules.{Rule, fits, overRow}
+use Rattle.ppda.specs.Rules.{Push, pushed, Rule, rule, fits, overRow, Below, IsRule}
 use Rattle.ppda.proofs.Sums.{sum-cong, sum-mono, sum-add, sum-mul, sum-swap, sumTo-mul}
+
+-- What makes a rule of a model.
+pub is-rule : (s g p z q : ℕ) (a : Push) (k : ℕ) → p < s → z < g → q < s → Below g (pushed a) → 0 < k → IsRule s g (rule p z q a k)
+is-rule s g p z q a k hp hz hq ha hk = record { state = hp; symbol = hz; target = hq; push = ha; weight = hk }
 
 -- A rule is for one state and one top.
 pub fits-exactly : (r : Rule) (p z : ℕ) → (fits r p z ≡ true) ↔ ((r .state ≡ p) × (r .symbol ≡ z))

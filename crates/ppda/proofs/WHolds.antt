@@ -1,32 +1,37 @@
 -- W is a model, its bounds are a certificate and (1, 0, 0) is dead: the theorems' hypotheses can be had.
 use Prim.Native.Nat.{ℕ, _*_, _^_, _≤_, _<_}
+use native.Mathlib.Nat.{not-le-of-lt}
 use native.Mathlib.Omega.{arith}
 use mathlib.Core.Path.{_≡_, refl}
+use mathlib.Core.List.{[], _∷_, flatMap}
 use lib.Dec.{lit<, lit≤}
 use Rattle.ppda.specs.Sums.{sum, sumTo, sign}
 use Rattle.ppda.specs.Rules.{rule, nothing, two, fits, overRow, IsRule, IsModel}
-use Rattle.ppda.specs.Equations.{f, meanSide}
+use Rattle.ppda.specs.Runs.{after, lists, weigh, overRuns, overRunsWithin}
+use Rattle.ppda.specs.Chances.{mean, counted}
+use Rattle.ppda.specs.Equations.{rows, f, meanSide}
 use Rattle.ppda.specs.Live.{Live, mark, alive}
 use Rattle.ppda.specs.Bounds.{LowerAt, Certificate}
 use Rattle.ppda.specs.W.{w, wUppers, wLowers, wMeans}
+use Rattle.ppda.proofs.Rows.{is-rule}
 use Rattle.ppda.proofs.Lists.{All, in-all, at-rows, at-entries}
 use Rattle.ppda.proofs.Live.{live-by-rounds}
-
-returning : (p q k : ℕ) → p < 2 → q < 2 → 0 < k → IsRule 2 1 (rule p 0 q nothing k)
-returning p q k hp hq hk = record { state = hp; symbol = lit< tt; target = hq; push = tt; weight = hk }
 
 pub is-model : IsModel 2 1 w
 unfolding overRow sum fits
 is-model =
     record { rule = in-all (IsRule 2 1) w rules; row = at-rows 2 1 (λ p z. overRow w p z (λ r. 1) ≡ 65536) ((tt, (tt, refl)), (tt, refl)) }
   where
-    calling : IsRule 2 1 (rule 0 0 0 (two 0 0) 16384)
-    calling = record { state = lit< tt; symbol = lit< tt; target = lit< tt; push = (lit< tt, (lit< tt, tt)); weight = lit< tt }
-
     rules : All (IsRule 2 1) w
     rules = (
-      returning 0 0 32768 (lit< tt) (lit< tt) (lit< tt),
-      (calling, (returning 0 1 16384 (lit< tt) (lit< tt) (lit< tt), (returning 1 1 65536 (lit< tt) (lit< tt) (lit< tt), tt))),
+      is-rule 2 1 0 0 0 nothing 32768 (lit< tt) (lit< tt) (lit< tt) tt (lit< tt),
+      (
+        is-rule 2 1 0 0 0 (two 0 0) 16384 (lit< tt) (lit< tt) (lit< tt) (lit< tt, (lit< tt, tt)) (lit< tt),
+        (
+          is-rule 2 1 0 0 1 nothing 16384 (lit< tt) (lit< tt) (lit< tt) tt (lit< tt),
+          (is-rule 2 1 1 0 1 nothing 65536 (lit< tt) (lit< tt) (lit< tt) tt (lit< tt), tt),
+        ),
+      ),
     )
 
 -- (1, 0, 0) is dead: no run from it ends so.
@@ -52,3 +57,13 @@ is-certificate = record {
   where
     dead-at : LowerAt w 2 1 wUppers wLowers 1 0 0
     dead-at = record { lower = lit≤ tt; below = lit≤ tt; range = lit≤ tt; strict = λ e. absurd (omega arith); dead = λ e. refl }
+
+-- Why mean steps are weighed by the uppers: 342/256 of a step for row (0, 0) is less than the mean counted to 3, so no certificate may have it.
+-- Weighed by lowers of 0, which are true lowers, it would pass.
+pub below-the-mean : rows 1 (342 ∷ 256 ∷ []) 0 0 * 65536 ^ 3 < mean w 3 0 0 * 2 ^ 8
+unfolding counted overRunsWithin overRuns sumTo sum lists flatMap after weigh fits
+below-the-mean = lit< tt
+
+pub refused-figure : Certificate w 2 1 wUppers (λ p z q. 0) (rows 1 (342 ∷ 256 ∷ [])) → ⊥
+unfolding meanSide overRow sum fits sumTo
+refused-figure c = not-le-of-lt (lit< tt) (c .means 0 0 (lit< tt) (lit< tt))
