@@ -3,64 +3,32 @@
 use Prim.Native.Nat.{ℕ, _^_}
 use mathlib.Core.Path.{_≡_, refl}
 use mathlib.Core.List.{List, [], _∷_, flatMap}
-use lib.Dec.{lit<}
 use Rattle.ppda.specs.Sums.{sum, sumTo}
-use Rattle.ppda.specs.Rules.{Rule, rule, nothing, one, two, fits, overRow, IsRule, IsModel}
+use Rattle.ppda.specs.Rules.{Rule, rule, nothing, one, two, fits, overRow, IsModel}
 use Rattle.ppda.specs.Runs.{after, lists, weigh, overRuns, overRunsWithin}
 use Rattle.ppda.specs.Chances.{chance, chanceFrom, mean, counted}
 use Rattle.ppda.specs.Equations.{Vector, RowVector, entries, rows, f, meanSide}
-use Rattle.ppda.proofs.Rows.{is-rule}
-use Rattle.ppda.proofs.Lists.{All, in-all, at-rows}
+use Rattle.ppda.proofs.Rows.{rules-of-test}
+use Rattle.ppda.proofs.Lists.{at-rows, inOrder, rowsInOrder}
 
 abbrev pub v : List Rule
 v =
     rule 0 0 0 (one 1) 16384 ∷ rule 0 0 1 nothing 32768 ∷ rule 0 0 1 (two 1 0) 16384 ∷ rule 0 1 0 nothing 65536
     ∷ rule 1 0 0 (two 0 1) 32768 ∷ rule 1 0 1 (one 1) 32768 ∷ rule 1 1 0 nothing 16384 ∷ rule 1 1 1 nothing 49152 ∷ []
 
--- The numbers of a vector, and of rows, in file order.
-abbrev pub listed : Vector → List ℕ
-listed x = x 0 0 0 ∷ x 0 0 1 ∷ x 0 1 0 ∷ x 0 1 1 ∷ x 1 0 0 ∷ x 1 0 1 ∷ x 1 1 0 ∷ x 1 1 1 ∷ []
-
-abbrev pub listedRows : RowVector → List ℕ
-listedRows x = x 0 0 ∷ x 0 1 ∷ x 1 0 ∷ x 1 1 ∷ []
-
 pub is-model : IsModel 2 2 v
 unfolding overRow sum fits
 is-model = record {
-  rule = in-all (IsRule 2 2) v rules;
+  rule = rules-of-test 2 2 v refl;
   row = at-rows 2 2 (λ p z. overRow v p z (λ r. 1) ≡ 65536) ((tt, ((tt, refl), refl)), ((tt, refl), refl));
 }
-  where
-    rules : All (IsRule 2 2) v
-    rules = (
-      is-rule 2 2 0 0 0 (one 1) 16384 (lit< tt) (lit< tt) (lit< tt) (lit< tt, tt) (lit< tt),
-      (
-        is-rule 2 2 0 0 1 nothing 32768 (lit< tt) (lit< tt) (lit< tt) tt (lit< tt),
-        (
-          is-rule 2 2 0 0 1 (two 1 0) 16384 (lit< tt) (lit< tt) (lit< tt) (lit< tt, (lit< tt, tt)) (lit< tt),
-          (
-            is-rule 2 2 0 1 0 nothing 65536 (lit< tt) (lit< tt) (lit< tt) tt (lit< tt),
-            (
-              is-rule 2 2 1 0 0 (two 0 1) 32768 (lit< tt) (lit< tt) (lit< tt) (lit< tt, (lit< tt, tt)) (lit< tt),
-              (
-                is-rule 2 2 1 0 1 (one 1) 32768 (lit< tt) (lit< tt) (lit< tt) (lit< tt, tt) (lit< tt),
-                (
-                  is-rule 2 2 1 1 0 nothing 16384 (lit< tt) (lit< tt) (lit< tt) tt (lit< tt),
-                  (is-rule 2 2 1 1 1 nothing 49152 (lit< tt) (lit< tt) (lit< tt) tt (lit< tt), tt),
-                ),
-              ),
-            ),
-          ),
-        ),
-      ),
-    )
 
-pub chances : listed (chance v 2) ≡ 1073741824 ∷ 2147483648 ∷ 4294967296 ∷ 0 ∷ 536870912 ∷ 1610612736 ∷ 1073741824 ∷ 3221225472 ∷ []
-unfolding chanceFrom overRunsWithin overRuns sumTo sum lists flatMap after weigh fits
+pub chances : inOrder 2 2 (chance v 2) ≡ 1073741824 ∷ 2147483648 ∷ 4294967296 ∷ 0 ∷ 536870912 ∷ 1610612736 ∷ 1073741824 ∷ 3221225472 ∷ []
+unfolding inOrder chanceFrom overRunsWithin overRuns sumTo sum lists flatMap after weigh fits
 chances = refl
 
-pub means : listedRows (mean v 2) ≡ 6442450944 ∷ 4294967296 ∷ 8589934592 ∷ 4294967296 ∷ []
-unfolding counted overRunsWithin overRuns sumTo sum lists flatMap after weigh fits
+pub means : rowsInOrder 2 2 (mean v 2) ≡ 6442450944 ∷ 4294967296 ∷ 8589934592 ∷ 4294967296 ∷ []
+unfolding rowsInOrder counted overRunsWithin overRuns sumTo sum lists flatMap after weigh fits
 means = refl
 
 abbrev pub vUppers : Vector
@@ -69,13 +37,13 @@ vUppers = entries 2 2 (1 ∷ 2 ∷ 3 ∷ 4 ∷ 5 ∷ 6 ∷ 7 ∷ 8 ∷ [])
 abbrev pub vMeans : RowVector
 vMeans = rows 2 (10 ∷ 20 ∷ 30 ∷ 40 ∷ [])
 
-pub f-is : listed (f v 2 (2 ^ 20) vUppers)
+pub f-is : inOrder 2 2 (f v 2 (2 ^ 20) vUppers)
     ≡ 51540377600 ∷ 36028865739456512 ∷ 72057594037927936 ∷ 0 ∷ 240518725632 ∷ 274878562304 ∷ 18014398509481984 ∷ 54043195528445952 ∷ []
-unfolding f overRow sum fits sumTo
+unfolding inOrder flatMap f overRow sum fits sumTo
 f-is = refl
 
-pub sides : listedRows (meanSide v 2 (2 ^ 20) (2 ^ 8) vUppers vMeans) ≡ 18622983274496 ∷ 17592186044416 ∷ 19310176239616 ∷ 17592186044416 ∷ []
-unfolding meanSide overRow sum fits sumTo
+pub sides : rowsInOrder 2 2 (meanSide v 2 (2 ^ 20) (2 ^ 8) vUppers vMeans) ≡ 18622983274496 ∷ 17592186044416 ∷ 19310176239616 ∷ 17592186044416 ∷ []
+unfolding rowsInOrder flatMap meanSide overRow sum fits sumTo
 sides = refl
 
 -- With s states and g symbols, entry (p, z, q) has the place (p × g + z) × s + q, and row (p, z) the place p × g + z.

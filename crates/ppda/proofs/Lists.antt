@@ -1,10 +1,12 @@
--- The laws of membership.
+-- What holds of every number below a bound, or at every element of a list; and the laws of membership.
 use Prim.Native.Nat.{ℕ, zero, suc, _<_}
 use native.Mathlib.Nat.{not-suc-le-zero, eq-or-lt-of-le, le-of-suc-le-suc}
 use mathlib.Core.Path.{_≡_, refl, sym, ap, subst}
+use mathlib.Core.Bool.{Bool, true, _&&_, and-eq-true-iff}
 use mathlib.Core.List.{List, [], _∷_, _++_, map, flatMap}
 use mathlib.Core.Logic.{_⊎_, inl, inr}
 use Rattle.ppda.specs.Sums.{In}
+use Rattle.ppda.specs.Equations.{Vector, RowVector}
 
 -- P holds of every number below n.
 abbrev pub AllTo : (ℕ → Type 0) → ℕ → Type 0
@@ -23,15 +25,26 @@ pub at-entries : (s g : ℕ) (P : ℕ → ℕ → ℕ → Type 0) → AllTo (λ 
     → (p z q : ℕ) → p < s → z < g → q < s → P p z q
 at-entries s g P a p z q hp hz = all-to (P p z) s (at-rows s g (λ p z. AllTo (P p z) s) a p z hp hz) q
 
-module _ {A : Type 0} where
-  -- P holds of every element.
-  abbrev pub All : (A → Type 0) → List A → Type 0
-  All P [] = Unit {0}
-  All P (x ∷ l) = P x × All P l
+-- 0, 1, …, n − 1; and the numbers of a vector, or of rows, in file order.
+abbrev pub range : ℕ → List ℕ
+range zero = []
+range (suc n) = range n ++ (n ∷ [])
 
-  pub in-all : (P : A → Type 0) (l : List A) → All P l → (x : A) → In x l → P x
-  in-all P (y ∷ l) a x (inl e) = subst P (sym e) (a .0)
-  in-all P (y ∷ l) a x (inr i) = in-all P l (a .1) x i
+unfoldable pub inOrder : ℕ → ℕ → Vector → List ℕ
+inOrder s g v = flatMap (λ p. flatMap (λ z. map (v p z) (range s)) (range g)) (range s)
+
+unfoldable pub rowsInOrder : ℕ → ℕ → RowVector → List ℕ
+rowsInOrder s g r = flatMap (λ p. map (r p) (range g)) (range s)
+
+module _ {A : Type 0} where
+  -- The test passes at every element.
+  abbrev pub every : (A → Bool) → List A → Bool
+  every test [] = true
+  every test (x ∷ l) = test x && every test l
+
+  pub in-every : (test : A → Bool) (l : List A) → every test l ≡ true → (x : A) → In x l → test x ≡ true
+  in-every test (y ∷ l) e x (inl i) = rw i (and-eq-true-iff (test y) (every test l) .0 e .0)
+  in-every test (y ∷ l) e x (inr i) = in-every test l (and-eq-true-iff (test y) (every test l) .0 e .1) x i
 
   pub in-append-left : (x : A) (k l : List A) → In x k → In x (k ++ l)
   in-append-left x (y ∷ k) l (inl e) = inl e

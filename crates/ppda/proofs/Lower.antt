@@ -172,3 +172,16 @@ pub lower-with-margin : (m : List Rule) (s g : ℕ) (u l : Vector) (a : ℕ) →
     ≤ chance m (2 ^ k - 1) p z q * 2 ^ 20 * (2 ^ 20) ^ k + (2 ^ 20 - suc a) ^ k * u p z q * 65536 ^ (2 ^ k - 1)
 unfolding stepsOf kept
 lower-with-margin m s g u l a model uppers lowers e k p z q hp hz hq = rw e at (lower-holds m s g u l model uppers lowers k p z q hp hz hq)
+
+-- Document 01's sentence as it stands, with m the margin shown over 2^20, be it 0 or not.
+pub lower-as-shown : (m : List Rule) (s g : ℕ) (u l : Vector) → IsModel s g m → Uppers m s g u → Lowers m s g u l
+    → (k p z q : ℕ) → p < s → z < g → q < s
+    → l p z q * 65536 ^ (2 ^ k - 1) * (2 ^ 20) ^ k
+    ≤ chance m (2 ^ k - 1) p z q * 2 ^ 20 * (2 ^ 20) ^ k + (2 ^ 20 - margin m s g u) ^ k * u p z q * 65536 ^ (2 ^ k - 1)
+lower-as-shown m s g u l model uppers lowers k p z q hp hz hq = go (margin m s g u) refl
+  where
+    go : (a : ℕ) → margin m s g u ≡ a
+        → l p z q * 65536 ^ (2 ^ k - 1) * (2 ^ 20) ^ k
+        ≤ chance m (2 ^ k - 1) p z q * 2 ^ 20 * (2 ^ 20) ^ k + (2 ^ 20 - margin m s g u) ^ k * u p z q * 65536 ^ (2 ^ k - 1)
+    go zero e = rw e (omega (arith, mul-le-mul-right (65536 ^ (2 ^ k - 1) * (2 ^ 20) ^ k) (lowers p z q hp hz hq .below)))
+    go (suc a) e = rw e (lower-with-margin m s g u l a model uppers lowers e k p z q hp hz hq)

@@ -54,6 +54,7 @@ of-share a u y pos h le =
     let t : a * (u * 2 ^ 36) ≤ (u * 2 ^ 36 - y) * 2 ^ 20 = le-div-iff-mul-le {k = u * 2 ^ 36} {x = a} {y = (u * 2 ^ 36 - y) * 2 ^ 20} pos .0 h in
     omega arith
 
+-- What is left of x when a parts of w are taken.
 rest : (w a k x y : ℕ) → k + a ≡ w → y * w + a * x ≤ x * w → y * w ≤ k * x
 rest w a k x y e h = omega (arith, ap (λ n. x * n) e)
 

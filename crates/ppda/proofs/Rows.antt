@@ -1,20 +1,47 @@
--- The laws of sums over the rules of a row.
-use Prim.Native.Nat.{ℕ, _<_, _+_, _*_, _≤_}
+-- The laws of rules and of sums over the rules of a row.
+use Prim.Native.Nat.{ℕ, _+_, _*_, _≤_}
 use native.Mathlib.Nat.{mul-le-mul-left, mul-one, mul-comm}
 use native.Mathlib.Omega.{arith}
 use mathlib.Core.Path.{_≡_, sym, ap, _∙_, fun-ext}
-use mathlib.Core.Bool.{true, and-eq-true-iff}
-use mathlib.Core.List.{List}
+use mathlib.Core.Bool.{Bool, true, _&&_, and-eq-true-iff}
+use mathlib.Core.List.{List, [], _∷_}
 use mathlib.Core.Logic.{_↔_}
-use lib.Dec.{eqb}
-use borrow.Author.Tests.{eqb-true, eq-eqb}
+use lib.Dec.{eqb, ltb}
+use borrow.Author.Tests.{eqb-true, eq-eqb, ltb-true}
 use Rattle.ppda.specs.Sums.{bit, sumTo, In}
-use Rattle.ppda.specs.Rules.{Push, pushed, Rule, rule, fits, overRow, Below, IsRule}
+use Rattle.ppda.specs.Rules.{pushed, Rule, fits, overRow, Below, IsRule}
 use Rattle.ppda.proofs.Sums.{sum-cong, sum-mono, sum-add, sum-mul, sum-swap, sumTo-mul}
+use Rattle.ppda.proofs.Lists.{every, in-every}
 
--- What makes a rule of a model.
-pub is-rule : (s g p z q : ℕ) (a : Push) (k : ℕ) → p < s → z < g → q < s → Below g (pushed a) → 0 < k → IsRule s g (rule p z q a k)
-is-rule s g p z q a k hp hz hq ha hk = record { state = hp; symbol = hz; target = hq; push = ha; weight = hk }
+-- A test for the rules of a model, for models that are written out.
+abbrev belowTest : ℕ → List ℕ → Bool
+belowTest g [] = true
+belowTest g (z ∷ σ) = ltb z g && belowTest g σ
+
+abbrev pub ruleTest : ℕ → ℕ → Rule → Bool
+ruleTest s g r =
+    ltb (r .state) s && (ltb (r .symbol) g && (ltb (r .target) s && (belowTest g (pushed (r .push)) && ltb 0 (r .weight))))
+
+below-of-test : (g : ℕ) (σ : List ℕ) → belowTest g σ ≡ true → Below g σ
+below-of-test g [] e = tt
+below-of-test g (z ∷ σ) e = let h = and-eq-true-iff (ltb z g) (belowTest g σ) .0 e in (ltb-true z g (h .0), below-of-test g σ (h .1))
+
+pub rule-of-test : (s g : ℕ) (r : Rule) → ruleTest s g r ≡ true → IsRule s g r
+rule-of-test s g r e =
+    let a = and-eq-true-iff (ltb (r .state) s) _ .0 e in
+    let b = and-eq-true-iff (ltb (r .symbol) g) _ .0 (a .1) in
+    let c = and-eq-true-iff (ltb (r .target) s) _ .0 (b .1) in
+    let d = and-eq-true-iff (belowTest g (pushed (r .push))) (ltb 0 (r .weight)) .0 (c .1) in
+    record {
+      state = ltb-true (r .state) s (a .0);
+      symbol = ltb-true (r .symbol) g (b .0);
+      target = ltb-true (r .target) s (c .0);
+      push = below-of-test g (pushed (r .push)) (d .0);
+      weight = ltb-true 0 (r .weight) (d .1);
+    }
+
+pub rules-of-test : (s g : ℕ) (m : List Rule) → every (ruleTest s g) m ≡ true → (r : Rule) → In r m → IsRule s g r
+rules-of-test s g m e r i = rule-of-test s g r (in-every (ruleTest s g) m e r i)
 
 -- A rule is for one state and one top.
 pub fits-exactly : (r : Rule) (p z : ℕ) → (fits r p z ≡ true) ↔ ((r .state ≡ p) × (r .symbol ≡ z))

@@ -1,4 +1,4 @@
--- Sums over runs by their first step: the chance equals its one-step recursion, so a reader may trust either, and so do the counted runs.
+-- Sums over runs by their first step. The chance equals its one-step recursion, so a reader may trust either; the counted runs have one too.
 use Prim.Native.Nat.{ℕ, zero, suc, _+_, _-_, _*_, _^_}
 use native.Mathlib.Nat.{add-zero, zero-add, add-mul, mul-add, zero-mul, mul-zero, mul-one, one-mul, mul-assoc, suc-sub-suc, sub-zero}
 use native.Mathlib.Omega.{arith}

@@ -138,7 +138,7 @@ unfolding sumTo
 sumTo-le h b zero e = omega arith
 sumTo-le h b (suc n) e = let t : sumTo h n ≤ n * b = sumTo-le h b n (λ i c. e i (omega arith)) in omega (arith, e n (le-refl (suc n)))
 
--- Two sums whose terms are in order, while the sums are not: the terms are equal.
+-- Where no term of h is above that of k, and the sum of k is at most that of h, no term of k is above that of h.
 pub sumTo-tight : (h k : ℕ → ℕ) (n : ℕ) → ((i : ℕ) → i < n → h i ≤ k i) → sumTo k n ≤ sumTo h n → (i : ℕ) → i < n → k i ≤ h i
 unfolding sumTo
 sumTo-tight h k zero e c i b = absurd (not-suc-le-zero b)
@@ -170,11 +170,6 @@ pub sum-swap : {A : Type 0} (h : A → ℕ → ℕ) (l : List A) (n : ℕ) → s
 unfolding sum sumTo
 sum-swap h [] n = sumTo-zero n
 sum-swap h (x ∷ l) n = sumTo-add (h x) (λ i. sum (λ y. h y i) l) n ∙ ap (λ k. sumTo (h x) n + k) (sum-swap h l n)
-
-pub sumTo-swap : (h : ℕ → ℕ → ℕ) (k n : ℕ) → sumTo (λ i. sumTo (λ j. h j i) k) n ≡ sumTo (λ j. sumTo (h j) n) k
-unfolding sumTo
-sumTo-swap h zero n = sumTo-zero n
-sumTo-swap h (suc k) n = sumTo-add (λ i. sumTo (λ j. h j i) k) (h k) n ∙ ap (λ c. c + sumTo (h k) n) (sumTo-swap h k n)
 
 -- ---- signs and least values
 

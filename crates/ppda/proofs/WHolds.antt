@@ -6,33 +6,21 @@ use mathlib.Core.Path.{_≡_, refl}
 use mathlib.Core.List.{[], _∷_, flatMap}
 use lib.Dec.{lit<, lit≤}
 use Rattle.ppda.specs.Sums.{sum, sumTo, sign}
-use Rattle.ppda.specs.Rules.{rule, nothing, two, fits, overRow, IsRule, IsModel}
+use Rattle.ppda.specs.Rules.{rule, fits, overRow, IsModel}
 use Rattle.ppda.specs.Runs.{after, lists, weigh, overRuns, overRunsWithin}
 use Rattle.ppda.specs.Chances.{mean, counted}
-use Rattle.ppda.specs.Equations.{rows, f, meanSide}
+use Rattle.ppda.specs.Equations.{Vector, RowVector, rows, f, meanSide}
 use Rattle.ppda.specs.Live.{Live, mark, alive}
-use Rattle.ppda.specs.Bounds.{LowerAt, Certificate}
+use Rattle.ppda.specs.Bounds.{LowerAt, Means, Certificate}
 use Rattle.ppda.specs.W.{w, wUppers, wLowers, wMeans}
-use Rattle.ppda.proofs.Rows.{is-rule}
-use Rattle.ppda.proofs.Lists.{All, in-all, at-rows, at-entries}
+use Rattle.ppda.proofs.Rows.{rules-of-test}
+use Rattle.ppda.proofs.Lists.{at-rows, at-entries}
 use Rattle.ppda.proofs.Live.{live-by-rounds}
 
 pub is-model : IsModel 2 1 w
 unfolding overRow sum fits
 is-model =
-    record { rule = in-all (IsRule 2 1) w rules; row = at-rows 2 1 (λ p z. overRow w p z (λ r. 1) ≡ 65536) ((tt, (tt, refl)), (tt, refl)) }
-  where
-    rules : All (IsRule 2 1) w
-    rules = (
-      is-rule 2 1 0 0 0 nothing 32768 (lit< tt) (lit< tt) (lit< tt) tt (lit< tt),
-      (
-        is-rule 2 1 0 0 0 (two 0 0) 16384 (lit< tt) (lit< tt) (lit< tt) (lit< tt, (lit< tt, tt)) (lit< tt),
-        (
-          is-rule 2 1 0 0 1 nothing 16384 (lit< tt) (lit< tt) (lit< tt) tt (lit< tt),
-          (is-rule 2 1 1 0 1 nothing 65536 (lit< tt) (lit< tt) (lit< tt) tt (lit< tt), tt),
-        ),
-      ),
-    )
+    record { rule = rules-of-test 2 1 w refl; row = at-rows 2 1 (λ p z. overRow w p z (λ r. 1) ≡ 65536) ((tt, (tt, refl)), (tt, refl)) }
 
 -- (1, 0, 0) is dead: no run from it ends so.
 pub dead : Live w 1 0 0 → ⊥
@@ -58,12 +46,20 @@ is-certificate = record {
     dead-at : LowerAt w 2 1 wUppers wLowers 1 0 0
     dead-at = record { lower = lit≤ tt; below = lit≤ tt; range = lit≤ tt; strict = λ e. absurd (omega arith); dead = λ e. refl }
 
--- Why mean steps are weighed by the uppers: 342/256 of a step for row (0, 0) is less than the mean counted to 3, so no certificate may have it.
--- Weighed by lowers of 0, which are true lowers, it would pass.
-pub below-the-mean : rows 1 (342 ∷ 256 ∷ []) 0 0 * 65536 ^ 3 < mean w 3 0 0 * 2 ^ 8
+-- Why mean steps are weighed by the uppers. 342/256 of a step for row (0, 0) is less than the mean counted to 3. Weighed by lowers of 0 it would
+-- pass, and by the uppers no certificate has it.
+abbrev pub tooLow : RowVector
+tooLow = rows 1 (342 ∷ 256 ∷ [])
+
+pub below-the-mean : tooLow 0 0 * 65536 ^ 3 < mean w 3 0 0 * 2 ^ 8
 unfolding counted overRunsWithin overRuns sumTo sum lists flatMap after weigh fits
 below-the-mean = lit< tt
 
-pub refused-figure : Certificate w 2 1 wUppers (λ p z q. 0) (rows 1 (342 ∷ 256 ∷ [])) → ⊥
+pub passes-by-lowers : Means w 2 1 (λ p z q. 0) tooLow
 unfolding meanSide overRow sum fits sumTo
-refused-figure c = not-le-of-lt (lit< tt) (c .means 0 0 (lit< tt) (lit< tt))
+passes-by-lowers =
+    at-rows 2 1 (λ p z. meanSide w 2 (2 ^ 20) (2 ^ 8) (λ p z q. 0) tooLow p z ≤ tooLow p z * 2 ^ 36) ((tt, (tt, lit≤ tt)), (tt, lit≤ tt))
+
+pub refused-figure : (l : Vector) → Certificate w 2 1 wUppers l tooLow → ⊥
+unfolding meanSide overRow sum fits sumTo
+refused-figure l c = not-le-of-lt (lit< tt) (c .means 0 0 (lit< tt) (lit< tt))

@@ -40,7 +40,7 @@ pub record Certificate (m : List Rule) (s g : ℕ) (u l : Vector) (r : RowVector
 abbrev pub UpperHolds : List Rule → ℕ → ℕ → Vector → Type 0
 UpperHolds m s g u = (n p z q : ℕ) → p < s → z < g → q < s → chance m n p z q * 2 ^ 20 ≤ u p z q * 65536 ^ n
 
--- The most steps of a run that k rounds of f from zero hold (theorems `scale-is` and `rounds-le-chance`).
+-- The most steps of a run that k rounds of f from zero hold (document 01, "Mistakes of method"; theorems `scale-is`, `rounds-le-chance`).
 unfoldable pub stepsOf : ℕ → ℕ
 stepsOf k = 2 ^ k - 1
 

@@ -15,14 +15,15 @@ unfoldable pub shareAt : ℕ → ℕ → ℕ → ℕ
 shareAt zero u y = 2 ^ 20
 shareAt (suc a) u y = share u y
 
--- The margin: the least share over the live entries, and 2^20 where nothing is live. The least of the rounded shares is the least share
+-- The margin, which document 01 shows where lowers stand: the least share over the live entries, and 2^20 where nothing is live. The least of the rounded shares is the least share
 -- rounded.
 unfoldable pub margin : List Rule → ℕ → ℕ → Vector → ℕ
 margin m s g u =
     leastTo (2 ^ 20)
     (λ p. leastTo (2 ^ 20) (λ z. leastTo (2 ^ 20) (λ q. shareAt (alive m s g p z q) (u p z q) (f m s (2 ^ 20) u p z q)) s) g) s
 
--- The m of mission point 3 for a margin is part/whole: margin/2^20, or 1/2^57 where the margin is 0.
+-- The m of mission point 3 for a margin is part/whole: margin/2^20, or 1/2^57 where the margin is 0 and document 01's m would be 0 (a strict
+-- upper leaves at least 1/2^56, and u is at most 2^57 such parts).
 abbrev pub part : ℕ → ℕ
 part zero = 1
 part (suc a) = suc a
