@@ -15,8 +15,8 @@ unfoldable pub shareAt : ℕ → ℕ → ℕ → ℕ
 shareAt zero u y = 2 ^ 20
 shareAt (suc a) u y = share u y
 
--- The margin, which document 01 shows where lowers stand: the least share over the live entries, and 2^20 where nothing is live. The least of the rounded shares is the least share
--- rounded.
+-- The margin, which document 01 shows where lowers stand: the least share over the live entries, and 2^20 where nothing is live. The least
+-- of the rounded shares is the least share rounded.
 unfoldable pub margin : List Rule → ℕ → ℕ → Vector → ℕ
 margin m s g u =
     leastTo (2 ^ 20)
