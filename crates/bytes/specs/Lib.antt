@@ -1,0 +1,2 @@
+-- Numbers in files.
+pub mod Words

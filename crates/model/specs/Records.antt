@@ -1,0 +1,61 @@
+-- The records of a model file: 10 bytes each, with no header.
+use Prim.Native.Nat.{ℕ, zero, suc, _+_, _*_, _/_, max}
+use mathlib.Core.List.{List, [], _∷_}
+use lib.ListN.{length, getD}
+use Rattle.bytes.specs.Words.{wordAt}
+
+-- How many whole records the file has.
+unfoldable pub recordsOf : List ℕ → ℕ
+recordsOf b = length b / 10
+
+-- Byte k of record i.
+unfoldable pub field : List ℕ → ℕ → ℕ → ℕ
+field b i k = getD b (10 * i + k) 0
+
+-- p, Z, q, L, Y, X of document 01: in this state, with this symbol on top, go to this target and push so many symbols, the new top and
+-- what lies under it.
+abbrev pub state : List ℕ → ℕ → ℕ
+state b i = field b i 0
+
+abbrev pub symbol : List ℕ → ℕ → ℕ
+symbol b i = field b i 1
+
+abbrev pub target : List ℕ → ℕ → ℕ
+target b i = field b i 2
+
+abbrev pub pushes : List ℕ → ℕ → ℕ
+pushes b i = field b i 3
+
+abbrev pub top : List ℕ → ℕ → ℕ
+top b i = field b i 4
+
+abbrev pub under : List ℕ → ℕ → ℕ
+under b i = field b i 5
+
+-- The weight, four bytes with the low byte first.
+unfoldable pub weight : List ℕ → ℕ → ℕ
+weight b i = wordAt b (10 * i + 6)
+
+-- The first six bytes of record i, by which records ascend.
+abbrev pub key : List ℕ → ℕ → List ℕ
+key b i = state b i ∷ symbol b i ∷ target b i ∷ pushes b i ∷ top b i ∷ under b i ∷ []
+
+-- The greatest of 0, h 0, h 1, …, h (n − 1).
+unfoldable pub greatestTo : (ℕ → ℕ) → ℕ → ℕ
+greatestTo h zero = 0
+greatestTo h (suc n) = max (greatestTo h n) (h n)
+
+-- The greatest state and the greatest symbol that record i names. An unused Y or X is 0, so it names no greater symbol.
+abbrev pub stateNamed : List ℕ → ℕ → ℕ
+stateNamed b i = max (state b i) (target b i)
+
+abbrev pub symbolNamed : List ℕ → ℕ → ℕ
+symbolNamed b i = max (symbol b i) (max (top b i) (under b i))
+
+-- s, one more than the greatest state named in any record.
+unfoldable pub statesOf : List ℕ → ℕ
+statesOf b = suc (greatestTo (stateNamed b) (recordsOf b))
+
+-- g, one more than the greatest symbol named.
+unfoldable pub symbolsOf : List ℕ → ℕ
+symbolsOf b = suc (greatestTo (symbolNamed b) (recordsOf b))

@@ -1,0 +1,34 @@
+-- The rules that a model file says, for the theory of crate ppda.
+use Prim.Native.Nat.{ℕ, zero, suc, _+_, _*_}
+use mathlib.Core.List.{List, [], _∷_, _++_}
+use lib.Dec.{eqb}
+use Rattle.ppda.specs.Sums.{bit, sumTo}
+use Rattle.ppda.specs.Rules.{Push, nothing, one, two, Rule, rule}
+use Rattle.model.specs.Records.{recordsOf, state, symbol, target, pushes, top, under, weight}
+
+-- What L, Y and X push.
+abbrev pub pushOf : ℕ → ℕ → ℕ → Push
+pushOf zero y x = nothing
+pushOf (suc zero) y x = one y
+pushOf (suc (suc l)) y x = two y x
+
+-- The rule of record i.
+unfoldable pub ruleOf : List ℕ → ℕ → Rule
+ruleOf b i = rule (state b i) (symbol b i) (target b i) (pushOf (pushes b i) (top b i) (under b i)) (weight b i)
+
+-- h 0, h 1, …, h (n − 1).
+unfoldable pub listTo : {A : Type 0} → (ℕ → A) → ℕ → List A
+listTo h zero = []
+listTo h (suc n) = listTo h n ++ (h n ∷ [])
+
+-- The rules of the file, one a record.
+unfoldable pub rulesOf : List ℕ → List Rule
+rulesOf b = listTo (ruleOf b) (recordsOf b)
+
+-- The number p × g + Z of record i's row, where the file has g symbols.
+unfoldable pub rowOf : List ℕ → ℕ → ℕ → ℕ
+rowOf b g i = state b i * g + symbol b i
+
+-- The sum of the weights of row number k.
+unfoldable pub rowSum : List ℕ → ℕ → ℕ → ℕ
+rowSum b g k = sumTo (λ i. bit (eqb (rowOf b g i) k) * weight b i) (recordsOf b)

@@ -1,0 +1,153 @@
+-- The laws of lists of tests: when the outcome is acceptance, which test a refusal names, and how a loop finds it.
+use Prim.Native.Nat.{ℕ, zero, suc, _+_, _<_}
+use native.Mathlib.Nat.{eq-or-lt-of-le, le-of-suc-le-suc}
+use native.Mathlib.Numerals.{add-one}
+use native.Mathlib.Omega.{arith}
+use mathlib.Core.Bool.{Bool, true, false}
+use mathlib.Core.List.{List, [], _∷_, _++_}
+use mathlib.Core.Logic.{_↔_, _⊎_, inl, inr}
+use mathlib.Core.Path.{_≡_, refl, sym, ap, ap₂, _∙_}
+use lib.IntN.{ℤ}
+use Rattle.outcome.specs.declared.Reason.{Reason}
+use Rattle.outcome.specs.declared.Outcome.the-variants.{Accepted, Refused}
+use Rattle.outcome.specs.Tests.{Test, refusal, first, each, Passed, FirstFailure}
+
+-- ---- one test in front
+
+-- A statement about a test by whether it fails.
+by-test : {P : Type 0} (t : Test) → (t .fails ≡ true → P) → (t .fails ≡ false → P) → P
+by-test {P} t failed passed = go (t .fails) refl
+  where
+    go : (b : Bool) → t .fails ≡ b → P
+    go true e = failed e
+    go false e = passed e
+
+-- The first test decides if it fails.
+pub first-fails : (t : Test) (ts : List Test) → t .fails ≡ true → first (t ∷ ts) ≡ refusal t
+unfolding first
+first-fails t ts e = rw e
+
+-- A test that does not fail is passed over.
+pub first-passes : (t : Test) (ts : List Test) → t .fails ≡ false → first (t ∷ ts) ≡ first ts
+unfolding first
+first-passes t ts e = rw e
+
+pub first-empty : first [] ≡ Accepted
+unfolding first
+first-empty = refl
+
+not-accepted : (r : Reason) (i : ℕ) (k : ℤ) → Refused r i k ≡ Accepted → ⊥
+not-accepted r i k e = let z : _≡_ {A = ℕ} 0 1 = cc in omega arith
+
+accepted-cons : (t : Test) (ts : List Test) → first (t ∷ ts) ≡ Accepted → (t .fails ≡ false) × (first ts ≡ Accepted)
+accepted-cons t ts e =
+    by-test t
+    (λ f. absurd (not-accepted (t .reason) (t .place) (t .shortfall) (sym (first-fails t ts f) ∙ e)))
+    (λ f. (f, sym (first-passes t ts f) ∙ e))
+
+-- ---- acceptance and refusal
+
+-- Accepted exactly when no test fails.
+pub accepted-exactly : (ts : List Test) → (first ts ≡ Accepted) ↔ Passed ts
+accepted-exactly [] = (λ e. tt, λ p. first-empty)
+accepted-exactly (t ∷ ts) = (
+  λ e. let h = accepted-cons t ts e in (h .0, accepted-exactly ts .0 (h .1)),
+  λ p. first-passes t ts (p .0) ∙ accepted-exactly ts .1 (p .1),
+)
+
+-- What stands after passed tests decides.
+pub first-after : (xs ys : List Test) → first xs ≡ Accepted → first (xs ++ ys) ≡ first ys
+first-after [] ys e = refl
+first-after (t ∷ xs) ys e = let h = accepted-cons t xs e in first-passes t (xs ++ ys) (h .0) ∙ first-after xs ys (h .1)
+
+-- A refusal stands, whatever comes after it.
+pub first-stands : (xs ys : List Test) → (first xs ≡ Accepted → ⊥) → first (xs ++ ys) ≡ first xs
+first-stands [] ys n = absurd (n first-empty)
+first-stands (t ∷ xs) ys n =
+    by-test t
+    (λ f. first-fails t (xs ++ ys) f ∙ sym (first-fails t xs f))
+    (λ f. first-passes t (xs ++ ys) f ∙ first-stands xs ys (λ e. n (first-passes t xs f ∙ e)) ∙ sym (first-passes t xs f))
+
+-- The first test that fails is the one that the refusal names.
+pub refused-exactly : (ts : List Test) (t : Test) → FirstFailure ts t → first ts ≡ refusal t
+refused-exactly ts t f =
+    ap first (f .split) ∙ first-after (f .before) (t ∷ f .after) (accepted-exactly (f .before) .1 (f .passed))
+    ∙ first-fails t (f .after) (f .fails)
+
+-- A first failure stays one behind a test that does not fail.
+later : (t : Test) (ts : List Test) (u : Test) → t .fails ≡ false → FirstFailure ts u → FirstFailure (t ∷ ts) u
+later t ts u f g =
+    record {
+      before = t ∷ g .before;
+      after = g .after;
+      split = ap (λ l. t ∷ l) (g .split);
+      passed = (f, g .passed);
+      fails = g .fails;
+    }
+
+-- Every refusal is that of the first test that fails.
+pub first-failure : (ts : List Test) (r : Reason) (i : ℕ) (k : ℤ) → first ts ≡ Refused r i k
+    → (t : Test) × (FirstFailure ts t × (refusal t ≡ Refused r i k))
+first-failure [] r i k e = absurd (not-accepted r i k (sym e ∙ first-empty))
+first-failure (t ∷ ts) r i k e =
+    by-test t
+    (λ f. (t, (record { before = []; after = ts; split = refl; passed = tt; fails = f }, sym (first-fails t ts f) ∙ e)))
+    (λ f. let (u, (g, q)) = first-failure ts r i k (sym (first-passes t ts f) ∙ e) in (u, (later t ts u f g, q)))
+
+-- ---- the tests of 0, 1, …, n − 1
+
+each-step : (h : ℕ → List Test) (i : ℕ) → each (i + 1) h ≡ each i h ++ h i
+unfolding each
+each-step h i = rw add-one
+
+-- Where a loop begins, and one more turn of it.
+pub each-none : (h : ℕ → List Test) → first (each 0 h) ≡ Accepted
+unfolding each
+each-none h = first-empty
+
+pub each-more : (h : ℕ → List Test) (i : ℕ) → first (each i h) ≡ Accepted → first (h i) ≡ Accepted → first (each (i + 1) h) ≡ Accepted
+each-more h i e f = ap first (each-step h i) ∙ first-after (each i h) (h i) e ∙ f
+
+-- Below suc n is n, or below n.
+last-or-below : {P : Type 0} (i n : ℕ) → i < suc n → (i ≡ n → P) → (i < n → P) → P
+last-or-below {P} i n l last below = go (eq-or-lt-of-le (le-of-suc-le-suc l))
+  where
+    go : (i ≡ n) ⊎ (i < n) → P
+    go (inl e) = last e
+    go (inr b) = below b
+
+-- The first list of tests that is refused decides for all.
+pub each-hit : (h : ℕ → List Test) (n i : ℕ) → i < n → first (each i h) ≡ Accepted → (first (h i) ≡ Accepted → ⊥)
+    → first (each n h) ≡ first (h i)
+unfolding each
+each-hit h zero i l e x = absurd (omega arith)
+each-hit h (suc n) i l e x =
+    last-or-below i n l
+    (λ q. first-after (each n h) (h n) (rw q at e) ∙ ap (λ j. first (h j)) (sym q))
+    (λ b. let p = each-hit h n i b e x in first-stands (each n h) (h n) (λ a. x (sym p ∙ a)) ∙ p)
+
+-- Equal tests at each number below n are equal tests in all.
+pub each-cong : (h k : ℕ → List Test) (n : ℕ) → ((i : ℕ) → i < n → h i ≡ k i) → each n h ≡ each n k
+unfolding each
+each-cong h k zero e = refl
+each-cong h k (suc n) e = ap₂ _++_ (each-cong h k n (λ i l. e i (omega arith))) (e n (omega arith))
+
+-- ---- no test fails: of one test, of two lists, of 0, 1, …, n − 1
+
+pub passed-one : (t : Test) → Passed (t ∷ []) ↔ (t .fails ≡ false)
+passed-one t = (λ p. p .0, λ e. (e, tt))
+
+pub passed-append : (xs ys : List Test) → Passed (xs ++ ys) ↔ (Passed xs × Passed ys)
+passed-append [] ys = (λ p. (tt, p), λ p. p .1)
+passed-append (t ∷ xs) ys = (
+  λ p. let q = passed-append xs ys .0 (p .1) in ((p .0, q .0), q .1),
+  λ p. (p .0 .0, passed-append xs ys .1 (p .0 .1, p .1)),
+)
+
+pub passed-each : (n : ℕ) (h : ℕ → List Test) → Passed (each n h) ↔ ((i : ℕ) → i < n → Passed (h i))
+unfolding each
+passed-each zero h = (λ p i l. absurd (omega arith), λ p. tt)
+passed-each (suc n) h = (
+  λ p i l. let q = passed-append (each n h) (h n) .0 p in last-or-below i n l (λ e. rw e (q .1)) (λ b. passed-each n h .0 (q .0) i b),
+  λ p. passed-append (each n h) (h n) .1 (passed-each n h .1 (λ i l. p i (omega arith)), p n (omega arith)),
+)

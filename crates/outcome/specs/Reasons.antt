@@ -1,0 +1,25 @@
+-- The numbers of document 01 for the reasons found in the files ("Reasons found in the files, in order").
+use Prim.Native.Nat.{ℕ}
+use Rattle.outcome.specs.declared.Reason.{Reason}
+use Rattle.outcome.specs.declared.Reason.the-variants.{ModelLength, OutOfRange, UnusedNotZero, WeightOutOfRange, NotAscending, RowSumWrong, NoShape, NotDue, ValueOutOfRange, DeadNotZero, UpperTooSmall, LowerAboveUpper, LowerTooLarge, MeanTooSmall}
+
+-- The number of a reason.
+abbrev pub numberOf : Reason → ℕ
+-- A model: its length; then of a record: state, symbol or count of pushed symbols out of range, an unused symbol not 0, the weight, not above
+-- the record before; then a row's sum.
+numberOf ModelLength = 10
+numberOf OutOfRange = 11
+numberOf UnusedNotZero = 12
+numberOf WeightOutOfRange = 13
+numberOf NotAscending = 14
+numberOf RowSumWrong = 15
+-- A delivery: its length; then of a record: kind, p, Z, q not those due there, the value; then over the whole file, one after the other: a
+-- dead entry not 0, u < f(u) (or u = f(u) at a live entry beside lowers), l > u, l > f(l), the mean steps' inequality.
+numberOf NoShape = 20
+numberOf NotDue = 21
+numberOf ValueOutOfRange = 22
+numberOf DeadNotZero = 23
+numberOf UpperTooSmall = 24
+numberOf LowerAboveUpper = 25
+numberOf LowerTooLarge = 26
+numberOf MeanTooSmall = 27

@@ -1,0 +1,75 @@
+// The one answer of every check: accepted, or refused with a reason, a place and a shortfall.
+
+ghost use mathlib.Core.Path.{_≡_};
+ghost use Rattle.outcome.specs.Reasons.{numberOf};
+ghost use Rattle.outcome.specs.Differences.{difference};
+
+// Why a file is refused. The number of each is `numberOf` of specs/Reasons.antt.
+pub enum Reason {
+    ModelLength,
+    OutOfRange,
+    UnusedNotZero,
+    WeightOutOfRange,
+    NotAscending,
+    RowSumWrong,
+    NoShape,
+    NotDue,
+    ValueOutOfRange,
+    DeadNotZero,
+    UpperTooSmall,
+    LowerAboveUpper,
+    LowerTooLarge,
+    MeanTooSmall,
+}
+
+pub enum Outcome {
+    Accepted,
+    Refused {
+        reason: Reason,
+        place: usize,
+        shortfall: i64,
+    },
+}
+
+// The number of a reason.
+pub fn number(reason: Reason) -> u32
+    ensures { λ r. ⌜ r ≡ numberOf reason ⌝ }
+{
+    match reason {
+        Reason::ModelLength => 10,
+        Reason::OutOfRange => 11,
+        Reason::UnusedNotZero => 12,
+        Reason::WeightOutOfRange => 13,
+        Reason::NotAscending => 14,
+        Reason::RowSumWrong => 15,
+        Reason::NoShape => 20,
+        Reason::NotDue => 21,
+        Reason::ValueOutOfRange => 22,
+        Reason::DeadNotZero => 23,
+        Reason::UpperTooSmall => 24,
+        Reason::LowerAboveUpper => 25,
+        Reason::LowerTooLarge => 26,
+        Reason::MeanTooSmall => 27,
+    }
+}
+
+// The signed difference of two exact sums, held to the range of an i64.
+pub fn difference(have: u64, need: u64) -> i64
+    ensures { λ r. ⌜ r ≡ difference have need ⌝ }
+{
+    if need <= have {
+        let over = have - need;
+        if over <= 9223372036854775807 {
+            over as i64
+        } else {
+            9223372036854775807
+        }
+    } else {
+        let under = need - have;
+        if under <= 9223372036854775807 {
+            0 - (under as i64)
+        } else {
+            -9223372036854775808
+        }
+    }
+}
