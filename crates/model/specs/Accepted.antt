@@ -27,11 +27,15 @@ Above [] ys = ⊥
 Above (a ∷ xs) [] = ⊥
 Above (a ∷ xs) (b ∷ ys) = (b < a) ⊎ ((a ≡ b) × Above xs ys)
 
--- A model file: 1 to 1,024 whole records (10), each right, ascending strictly (14), and each row's weights sum to 65,536 (15).
-pub record ModelFile (b : List ℕ) : Type 0 where
+-- 1 to 1,024 whole records (10), each right.
+pub record RecordsRight (b : List ℕ) : Type 0 where
   pub some : 1 ≤ recordsOf b
   pub most : recordsOf b ≤ 1024
   pub whole : length b ≡ 10 * recordsOf b
   pub right : (i : ℕ) → i < recordsOf b → RecordRight b i
+
+-- A model file: its records are right and ascend strictly (14), and each row's weights sum to 65,536 (15).
+pub record ModelFile (b : List ℕ) : Type 0 where
+  pub records : RecordsRight b
   pub ascending : (i : ℕ) → suc i < recordsOf b → Above (key b (suc i)) (key b i)
   pub row : (p z : ℕ) → p < statesOf b → z < symbolsOf b → overRow (rulesOf b) p z (λ r. 1) ≡ 65536

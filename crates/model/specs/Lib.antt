@@ -4,3 +4,4 @@ pub mod Records
 pub mod Rules
 pub mod Verdict
 pub mod Accepted
+pub mod W

@@ -45,6 +45,10 @@ unfoldable pub greatestTo : (ℕ → ℕ) → ℕ → ℕ
 greatestTo h zero = 0
 greatestTo h (suc n) = max (greatestTo h n) (h n)
 
+-- The greatest of bytes j, k and l of record i.
+abbrev pub greatestByte : List ℕ → ℕ → ℕ → ℕ → ℕ → ℕ
+greatestByte b j k l i = max (field b i j) (max (field b i k) (field b i l))
+
 -- The greatest state and the greatest symbol that record i names. An unused Y or X is 0, so it names no greater symbol.
 abbrev pub stateNamed : List ℕ → ℕ → ℕ
 stateNamed b i = max (state b i) (target b i)

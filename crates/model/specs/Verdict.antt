@@ -14,17 +14,18 @@ use Rattle.model.specs.Rules.{rowSum}
 unfoldable pub wholeRecords : ℕ → Bool
 wholeRecords n = ltb 0 n && (eqb (n % 10) 0 && leb n 10240)
 
--- p, Z, q, L, Y and X are in range.
-unfoldable pub inRange : ℕ → ℕ → ℕ → ℕ → ℕ → ℕ → Bool
-inRange p z q l y x = leb p 7 && (leb z 15 && (leb q 7 && (leb l 2 && (leb y 15 && leb x 15))))
+-- p, Z, q, L, Y and X of record i are in range.
+unfoldable pub rangeAt : List ℕ → ℕ → Bool
+rangeAt b i =
+    leb (state b i) 7 && (leb (symbol b i) 15 && (leb (target b i) 7 && (leb (pushes b i) 2 && (leb (top b i) 15 && leb (under b i) 15))))
 
 -- Y is 0 when L is 0, and X is 0 unless L is 2.
-unfoldable pub unusedZero : ℕ → ℕ → ℕ → Bool
-unusedZero l y x = (ltb 0 l || eqb y 0) && (eqb l 2 || eqb x 0)
+unfoldable pub unusedAt : List ℕ → ℕ → Bool
+unusedAt b i = (ltb 0 (pushes b i) || eqb (top b i) 0) && (eqb (pushes b i) 2 || eqb (under b i) 0)
 
 -- The weight is from 1 to 65,536.
-unfoldable pub weightInRange : ℕ → Bool
-weightInRange k = ltb 0 k && leb k 65536
+unfoldable pub weightAt : List ℕ → ℕ → Bool
+weightAt b i = ltb 0 (weight b i) && leb (weight b i) 65536
 
 -- One list of numbers lies above another of the same length: it is greater where they first differ.
 abbrev pub above : List ℕ → List ℕ → Bool
@@ -40,9 +41,9 @@ ascends b (suc i) = above (key b (suc i)) (key b i)
 -- The tests of record i.
 unfoldable pub recordTests : List ℕ → ℕ → List Test
 recordTests b i =
-    plain (not (inRange (state b i) (symbol b i) (target b i) (pushes b i) (top b i) (under b i))) OutOfRange i
-    ∷ plain (not (unusedZero (pushes b i) (top b i) (under b i))) UnusedNotZero i
-    ∷ plain (not (weightInRange (weight b i))) WeightOutOfRange i
+    plain (not (rangeAt b i)) OutOfRange i
+    ∷ plain (not (unusedAt b i)) UnusedNotZero i
+    ∷ plain (not (weightAt b i)) WeightOutOfRange i
     ∷ plain (not (ascends b i)) NotAscending i
     ∷ []
 

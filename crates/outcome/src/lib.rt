@@ -1,6 +1,7 @@
 // The one answer of every check: accepted, or refused with a reason, a place and a shortfall.
 
 ghost use mathlib.Core.Path.{_≡_};
+ghost use lib.IntN.{pos};
 ghost use Rattle.outcome.specs.Reasons.{numberOf};
 ghost use Rattle.outcome.specs.Differences.{difference};
 
@@ -50,6 +51,17 @@ pub fn number(reason: Reason) -> u32
         Reason::LowerAboveUpper => 25,
         Reason::LowerTooLarge => 26,
         Reason::MeanTooSmall => 27,
+    }
+}
+
+// A refusal that is no missed inequality: its shortfall is 0.
+pub fn refused(reason: Reason, place: usize) -> Outcome
+    ensures { λ r. ⌜ r ≡ Outcome.Refused reason place (pos 0) ⌝ }
+{
+    Outcome::Refused {
+        reason,
+        place,
+        shortfall: 0,
     }
 }
 

@@ -1,0 +1,91 @@
+-- The laws of a model file's records, of the lists and greatest values made of them, and of a row's sum over them.
+use Prim.Native.Nat.{ℕ, zero, suc, _*_, _≤_, _<_, max}
+use native.Mathlib.Nat.{not-suc-le-zero, eq-or-lt-of-le, le-of-suc-le-suc, le-refl, max-le}
+use native.Mathlib.Omega.{arith}
+use mathlib.Core.List.{List, [], _∷_}
+use mathlib.Core.Logic.{_⊎_, inl, inr}
+use mathlib.Core.Path.{_≡_, refl, _∙_}
+use Rattle.ppda.specs.Sums.{bit, sum, sumTo, In}
+use Rattle.ppda.specs.Rules.{Rule, fits, overRow}
+use Rattle.ppda.proofs.Sums.{sum-append}
+use Rattle.ppda.proofs.Lists.{in-append-cases}
+use Rattle.model.specs.Records.{recordsOf, state, symbol, target, top, under, weight, greatestTo, stateNamed, symbolNamed, statesOf, symbolsOf}
+use Rattle.model.specs.Rules.{ruleOf, listTo, rulesOf}
+use Rattle.model.specs.Accepted.{RecordRight}
+
+-- ---- h 0, h 1, …, h (n − 1)
+
+pub listTo-sum : {A : Type 0} (k : A → ℕ) (h : ℕ → A) (n : ℕ) → sum k (listTo h n) ≡ sumTo (λ i. k (h i)) n
+unfolding sum sumTo listTo
+listTo-sum k h zero = refl
+listTo-sum k h (suc n) = sum-append k (listTo h n) (h n ∷ []) ∙ rw (listTo-sum k h n) (omega arith)
+
+pub in-listTo : {A : Type 0} (h : ℕ → A) (n : ℕ) (x : A) → In x (listTo h n) → (i : ℕ) × (i < n) × (x ≡ h i)
+unfolding listTo
+in-listTo h (suc n) x e = go (in-append-cases x (listTo h n) (h n ∷ []) e) (in-listTo h n x)
+  where
+    go : In x (listTo h n) ⊎ In x (h n ∷ []) → (In x (listTo h n) → (i : ℕ) × (i < n) × (x ≡ h i)) → (i : ℕ) × (i < suc n) × (x ≡ h i)
+    go (inl a) rest = let t = rest a in (t .0, omega (arith, t .1), t .2)
+    go (inr (inl q)) rest = (n, le-refl (suc n), q)
+
+-- ---- greatest values
+
+pub greatest-le : (h : ℕ → ℕ) (n i : ℕ) → i < n → h i ≤ greatestTo h n
+unfolding greatestTo
+greatest-le h zero i b = absurd (not-suc-le-zero b)
+greatest-le h (suc n) i b = go (eq-or-lt-of-le (le-of-suc-le-suc b)) (λ c. greatest-le h n i c)
+  where
+    go : (i ≡ n) ⊎ (i < n) → (i < n → h i ≤ greatestTo h n) → h i ≤ max (greatestTo h n) (h n)
+    go (inl e) rest = rw e (omega arith)
+    go (inr c) rest = let t : h i ≤ greatestTo h n = rest c in omega arith
+
+pub greatest-most : (h : ℕ → ℕ) (n a : ℕ) → ((i : ℕ) → i < n → h i ≤ a) → greatestTo h n ≤ a
+unfolding greatestTo
+greatest-most h zero a e = omega arith
+greatest-most h (suc n) a e = max-le (greatest-most h n a (λ i b. e i (omega arith))) (e n (le-refl (suc n)))
+
+-- ---- states and symbols
+
+module _ (b : List ℕ) (i : ℕ) (below : i < recordsOf b) where
+  pub state-below : state b i < statesOf b
+  unfolding statesOf
+  state-below = omega (arith, greatest-le (stateNamed b) (recordsOf b) i below)
+
+  pub target-below : target b i < statesOf b
+  unfolding statesOf
+  target-below = omega (arith, greatest-le (stateNamed b) (recordsOf b) i below)
+
+  pub symbol-below : symbol b i < symbolsOf b
+  unfolding symbolsOf
+  symbol-below = omega (arith, greatest-le (symbolNamed b) (recordsOf b) i below)
+
+  pub top-below : top b i < symbolsOf b
+  unfolding symbolsOf
+  top-below = omega (arith, greatest-le (symbolNamed b) (recordsOf b) i below)
+
+  pub under-below : under b i < symbolsOf b
+  unfolding symbolsOf
+  under-below = omega (arith, greatest-le (symbolNamed b) (recordsOf b) i below)
+
+-- At most 8 states and 16 symbols.
+module _ (b : List ℕ) (right : (i : ℕ) → i < recordsOf b → RecordRight b i) where
+  pub states-most : statesOf b ≤ 8
+  unfolding statesOf
+  states-most =
+      omega (arith, greatest-most (stateNamed b) (recordsOf b) 7 (λ i l. max-le (right i l .state-range) (right i l .target-range)))
+
+  pub symbols-most : symbolsOf b ≤ 16
+  unfolding symbolsOf
+  symbols-most =
+      omega (
+        arith,
+        greatest-most (symbolNamed b) (recordsOf b) 15
+            (λ i l. max-le (right i l .symbol-range) (max-le (right i l .top-range) (right i l .under-range))),
+      )
+
+-- ---- a sum over a row
+
+pub over-row : (b : List ℕ) (p z : ℕ) (h : Rule → ℕ)
+    → overRow (rulesOf b) p z h ≡ sumTo (λ i. bit (fits (ruleOf b i) p z) * (weight b i * h (ruleOf b i))) (recordsOf b)
+unfolding overRow rulesOf ruleOf
+over-row b p z h = listTo-sum (λ r. bit (fits r p z) * (r .weight * h r)) (ruleOf b) (recordsOf b)

@@ -1,0 +1,86 @@
+-- The rows of a model file by their numbers p × g + Z: no two rows share a number, record i's row is the row of its rule, and the rows of
+-- the records ascend.
+use Prim.Native.Nat.{ℕ, zero, suc, _+_, _*_, _/_, _%_, _≤_, _<_}
+use native.Mathlib.Nat.{eq-or-lt-of-le, le-refl, le-trans, le-of-suc-le-suc, mul-le-mul-right, mul-one, mod-lt, div-lt-iff-lt-mul, div-add-mod'}
+use native.Mathlib.Omega.{arith}
+use mathlib.Core.Bool.{Bool, true, false}
+use mathlib.Core.List.{List}
+use mathlib.Core.Logic.{_⊎_, inl, inr}
+use mathlib.Core.Path.{_≡_, refl, sym, _∙_}
+use lib.Dec.{eqb, ltb}
+use borrow.Author.Tests.{ltb-true, ltb-false, eqb-true, eq-eqb}
+use Rattle.ppda.specs.Rules.{fits, overRow}
+use Rattle.ppda.proofs.Sums.{sumTo-cong}
+use Rattle.ppda.proofs.Rows.{fits-exactly}
+use Rattle.model.specs.Records.{recordsOf, state, symbol, key, symbolsOf}
+use Rattle.model.specs.Rules.{ruleOf, rulesOf, rowOf, rowSum}
+use Rattle.model.specs.Accepted.{Above, ModelFile}
+use Rattle.model.proofs.Records.{symbol-below, over-row}
+
+-- ---- row numbers
+
+-- A row of a lower state has a lower number.
+row-lower : (g p z p′ z′ : ℕ) → z < g → p < p′ → p * g + z < p′ * g + z′
+row-lower g p z p′ z′ hz hp = let t : suc p * g ≤ p′ * g = mul-le-mul-right g hp in omega arith
+
+-- Different rows have different numbers.
+pub row-number : (g p z p′ z′ : ℕ) → z < g → z′ < g → p * g + z ≡ p′ * g + z′ → (p ≡ p′) × (z ≡ z′)
+row-number g p z p′ z′ hz hz′ e = go (ltb p p′) refl (ltb p′ p) refl
+  where
+    go : (s : Bool) → ltb p p′ ≡ s → (t : Bool) → ltb p′ p ≡ t → (p ≡ p′) × (z ≡ z′)
+    go true u t v = absurd (omega (arith, row-lower g p z p′ z′ hz (ltb-true p p′ u)))
+    go false u true v = absurd (omega (arith, row-lower g p′ z′ p z hz′ (ltb-true p′ p v)))
+    go false u false v =
+        let q : p ≡ p′ = omega (arith, ltb-false p p′ u, ltb-false p′ p v) in
+        let f : p′ * g + z ≡ p′ * g + z′ = rw q at e in
+        (q, omega arith)
+
+-- Every row number below s × g is that of a row, and every row of s states and g symbols has a number below s × g.
+pub row-split : (s g k : ℕ) → k < s * g → (p : ℕ) × (z : ℕ) × (p < s) × (z < g) × (k ≡ p * g + z)
+row-split s zero k h = absurd (omega arith)
+row-split s (suc g) k h =
+    (k / suc g, k % suc g, div-lt-iff-lt-mul {k = suc g} (omega arith) .1 h, mod-lt k (omega arith), sym (div-add-mod' k (suc g)))
+
+pub row-below : (s g p z : ℕ) → p < s → z < g → p * g + z < s * g
+row-below s g p z hp hz = omega (arith, row-lower g p z s 0 hz hp)
+
+-- ---- the rows of records
+
+-- Tests that pass in the same cases are equal.
+same-test : (s t : Bool) → (s ≡ true → t ≡ true) → (t ≡ true → s ≡ true) → s ≡ t
+same-test true t f g = sym (f refl)
+same-test false true f g = g refl
+same-test false false f g = refl
+
+pub row-fits : (b : List ℕ) (i p z : ℕ) → i < recordsOf b → z < symbolsOf b
+    → fits (ruleOf b i) p z ≡ eqb (rowOf b (symbolsOf b) i) (p * symbolsOf b + z)
+unfolding ruleOf rowOf
+row-fits b i p z l hz =
+    same-test (fits (ruleOf b i) p z) (eqb (rowOf b (symbolsOf b) i) (p * symbolsOf b + z))
+    (λ e. let h = fits-exactly (ruleOf b i) p z .0 e in eq-eqb (rowOf b (symbolsOf b) i) (p * symbolsOf b + z) (rw (h .0, h .1)))
+    (λ e. fits-exactly (ruleOf b i) p z .1 (row-number (symbolsOf b) (state b i) (symbol b i) p z (symbol-below b i l) hz (eqb-true _ _ e)))
+
+pub row-sum : (b : List ℕ) (p z : ℕ) → z < symbolsOf b
+    → rowSum b (symbolsOf b) (p * symbolsOf b + z) ≡ overRow (rulesOf b) p z (λ r. 1)
+unfolding rowSum
+row-sum b p z hz =
+    sumTo-cong _ _ (recordsOf b) (λ i l. rw (row-fits b i p z l hz, mul-one))
+    ∙ sym (over-row b p z (λ r. 1))
+
+-- A record above the one before it is in the same row or in a later one.
+next-row : (b : List ℕ) (i : ℕ) → i < recordsOf b → Above (key b (suc i)) (key b i) → rowOf b (symbolsOf b) i ≤ rowOf b (symbolsOf b) (suc i)
+unfolding rowOf
+next-row b i l (inl h) =
+    omega (arith, row-lower (symbolsOf b) (state b i) (symbol b i) (state b (suc i)) (symbol b (suc i)) (symbol-below b i l) h)
+next-row b i l (inr (e, inl h)) = rw e (omega arith)
+next-row b i l (inr (e, inr (f, h))) = rw (e, f) (le-refl _)
+
+pub rows-ascend : (b : List ℕ) → ModelFile b → (i j : ℕ) → i ≤ j → j < recordsOf b
+    → rowOf b (symbolsOf b) i ≤ rowOf b (symbolsOf b) j
+rows-ascend b m i zero h l = let e : i ≡ 0 = omega arith in rw e (le-refl _)
+rows-ascend b m i (suc j) h l = go (eq-or-lt-of-le h) (λ c. rows-ascend b m i j c (omega arith))
+  where
+    go : (i ≡ suc j) ⊎ (i < suc j) → (i ≤ j → rowOf b (symbolsOf b) i ≤ rowOf b (symbolsOf b) j)
+        → rowOf b (symbolsOf b) i ≤ rowOf b (symbolsOf b) (suc j)
+    go (inl e) rest = rw e (le-refl (rowOf b (symbolsOf b) (suc j)))
+    go (inr c) rest = le-trans (rest (le-of-suc-le-suc c)) (next-row b j (omega arith) (m .ascending j l))
