@@ -1,15 +1,16 @@
 -- The laws of a model file's records, of the lists and greatest values made of them, and of a row's sum over them.
-use Prim.Native.Nat.{ℕ, zero, suc, _*_, _≤_, _<_, max}
+use Prim.Native.Nat.{ℕ, zero, suc, _+_, _*_, _≤_, _<_, max}
 use native.Mathlib.Nat.{not-suc-le-zero, eq-or-lt-of-le, le-of-suc-le-suc, le-refl, max-le}
+use native.Mathlib.Numerals.{add-one}
 use native.Mathlib.Omega.{arith}
 use mathlib.Core.List.{List, [], _∷_}
 use mathlib.Core.Logic.{_⊎_, inl, inr}
-use mathlib.Core.Path.{_≡_, refl, _∙_}
+use mathlib.Core.Path.{_≡_, refl, ap₂, _∙_}
 use Rattle.ppda.specs.Sums.{bit, sum, sumTo, In}
 use Rattle.ppda.specs.Rules.{Rule, fits, overRow}
 use Rattle.ppda.proofs.Sums.{sum-append}
 use Rattle.ppda.proofs.Lists.{in-append-cases}
-use Rattle.model.specs.Records.{recordsOf, state, symbol, target, top, under, weight, greatestTo, stateNamed, symbolNamed, statesOf, symbolsOf}
+use Rattle.model.specs.Records.{recordsOf, state, symbol, target, top, under, weight, greatestTo, greatestByte, stateNamed, symbolNamed, statesOf, symbolsOf}
 use Rattle.model.specs.Rules.{ruleOf, listTo, rulesOf}
 use Rattle.model.specs.Accepted.{RecordRight}
 
@@ -44,7 +45,31 @@ unfolding greatestTo
 greatest-most h zero a e = omega arith
 greatest-most h (suc n) a e = max-le (greatest-most h n a (λ i b. e i (omega arith))) (e n (le-refl (suc n)))
 
+-- Equal numbers have an equal greatest.
+pub greatest-cong : (h k : ℕ → ℕ) (n : ℕ) → ((i : ℕ) → h i ≡ k i) → greatestTo h n ≡ greatestTo k n
+unfolding greatestTo
+greatest-cong h k zero e = refl
+greatest-cong h k (suc n) e = ap₂ max (greatest-cong h k n e) (e n)
+
+-- Where a loop begins, and one more turn of it.
+pub greatest-none : (h : ℕ → ℕ) → greatestTo h 0 ≡ 0
+unfolding greatestTo
+greatest-none h = refl
+
+pub greatest-step : (h : ℕ → ℕ) (i : ℕ) → greatestTo h (i + 1) ≡ max (greatestTo h i) (h i)
+unfolding greatestTo
+greatest-step h i = rw add-one
+
 -- ---- states and symbols
+
+-- s and g by the greatest byte of all records, as the code finds it.
+pub states-by-byte : (b : List ℕ) → greatestTo (greatestByte b 0 2 2) (recordsOf b) + 1 ≡ statesOf b
+unfolding statesOf
+states-by-byte b = omega (arith, greatest-cong (greatestByte b 0 2 2) (stateNamed b) (recordsOf b) (λ i. omega arith))
+
+pub symbols-by-byte : (b : List ℕ) → greatestTo (greatestByte b 1 4 5) (recordsOf b) + 1 ≡ symbolsOf b
+unfolding symbolsOf
+symbols-by-byte b = rw add-one
 
 module _ (b : List ℕ) (i : ℕ) (below : i < recordsOf b) where
   pub state-below : state b i < statesOf b

@@ -1,21 +1,24 @@
--- The rows of a model file by their numbers p × g + Z: no two rows share a number, record i's row is the row of its rule, and the rows of
--- the records ascend.
+-- The rows of a model file by their numbers p × g + Z: no two rows share a number, record i's row is the row of its rule, a loop over the
+-- records makes the sums of the rows, and the rows of the records ascend.
 use Prim.Native.Nat.{ℕ, zero, suc, _+_, _*_, _/_, _%_, _≤_, _<_}
-use native.Mathlib.Nat.{eq-or-lt-of-le, le-refl, le-trans, le-of-suc-le-suc, mul-le-mul-right, mul-one, mod-lt, div-lt-iff-lt-mul, div-add-mod'}
+use native.Mathlib.Nat.{eq-or-lt-of-le, le-refl, le-trans, le-of-suc-le-suc, mul-le-mul, mul-le-mul-right, mul-one, mod-lt, div-lt-iff-lt-mul, div-add-mod'}
 use native.Mathlib.Omega.{arith}
 use mathlib.Core.Bool.{Bool, true, false}
 use mathlib.Core.List.{List}
 use mathlib.Core.Logic.{_⊎_, inl, inr}
-use mathlib.Core.Path.{_≡_, refl, sym, _∙_}
+use mathlib.Core.Path.{_≡_, refl, sym, ap, _∙_}
 use lib.Dec.{eqb, ltb}
-use borrow.Author.Tests.{ltb-true, ltb-false, eqb-true, eq-eqb}
+use lib.ListN.{length, getD, set, replicate, length-set, getD-replicate}
+use lib.Seq.{getD-set-same, getD-set-other}
+use borrow.Author.Tests.{ltb-true, ltb-false, eqb-true, eqb-false, eq-eqb, ne-eqb}
+use Rattle.ppda.specs.Sums.{bit, sumTo}
 use Rattle.ppda.specs.Rules.{fits, overRow}
-use Rattle.ppda.proofs.Sums.{sumTo-cong}
+use Rattle.ppda.proofs.Sums.{sumTo-cong, sumTo-le, sumTo-step}
 use Rattle.ppda.proofs.Rows.{fits-exactly}
-use Rattle.model.specs.Records.{recordsOf, state, symbol, key, symbolsOf}
+use Rattle.model.specs.Records.{recordsOf, statesOf, symbolsOf, state, symbol, weight, key}
 use Rattle.model.specs.Rules.{ruleOf, rulesOf, rowOf, rowSum}
-use Rattle.model.specs.Accepted.{Above, ModelFile}
-use Rattle.model.proofs.Records.{symbol-below, over-row}
+use Rattle.model.specs.Accepted.{Above, RecordsRight, ModelFile}
+use Rattle.model.proofs.Records.{symbol-below, states-most, symbols-most, over-row}
 
 -- ---- row numbers
 
@@ -44,6 +47,13 @@ row-split s (suc g) k h =
 pub row-below : (s g p z : ℕ) → p < s → z < g → p * g + z < s * g
 row-below s g p z hp hz = omega (arith, row-lower g p z s 0 hz hp)
 
+-- Numbers in range make a row number below 128, and right records name at most 128 rows.
+pub row-most : (p g z : ℕ) → p < 8 → g < 17 → z < 16 → p * g + z < 128
+row-most p g z hp hg hz = let p7 : p ≤ 7 = omega arith in let g16 : g ≤ 16 = omega arith in omega (arith, mul-le-mul p7 g16)
+
+pub rows-most : (b : List ℕ) → RecordsRight b → statesOf b * symbolsOf b ≤ 128
+rows-most b r = mul-le-mul (states-most b (r .right)) (symbols-most b (r .right))
+
 -- ---- the rows of records
 
 -- Tests that pass in the same cases are equal.
@@ -66,6 +76,65 @@ unfolding rowSum
 row-sum b p z hz =
     sumTo-cong _ _ (recordsOf b) (λ i l. rw (row-fits b i p z l hz, mul-one))
     ∙ sym (over-row b p z (λ r. 1))
+
+-- ---- the sums of the rows, record by record
+
+-- What record j adds to row k.
+abbrev adds : List ℕ → ℕ → ℕ → ℕ → ℕ
+adds b g k j = bit (eqb (rowOf b g j) k) * weight b j
+
+-- Entry k of the list is the sum of the weights of those of the first i records that are in row k.
+pub record RowSums (b : List ℕ) (g : ℕ) (l : List ℕ) (i : ℕ) : Type 0 where
+  pub size : length l ≡ 128
+  pub sum-at : (k : ℕ) → k < 128 → getD l k 0 ≡ sumTo (adds b g k) i
+
+adds-own : (b : List ℕ) (g k j : ℕ) → rowOf b g j ≡ k → adds b g k j ≡ weight b j
+adds-own b g k j e = rw (eq-eqb (rowOf b g j) k e) (omega arith)
+
+adds-other : (b : List ℕ) (g k j : ℕ) → (rowOf b g j ≡ k → ⊥) → adds b g k j ≡ 0
+adds-other b g k j n = rw (ne-eqb (rowOf b g j) k n) (omega arith)
+
+adds-most : (b : List ℕ) (g k j : ℕ) → weight b j ≤ 65536 → adds b g k j ≤ 65536
+adds-most b g k j h = go (eqb (rowOf b g j) k)
+  where
+    go : (t : Bool) → bit t * weight b j ≤ 65536
+    go true = omega arith
+    go false = omega arith
+
+-- Before the first record all sums are 0.
+pub row-sums-none : (b : List ℕ) (g : ℕ) → RowSums b g (replicate 128 0) 0
+unfolding sumTo
+row-sums-none b g = record { size = refl; sum-at = λ k h. getD-replicate 128 k 0 0 h }
+
+module _ {b : List ℕ} {g : ℕ} {l : List ℕ} {i : ℕ} (sums : RowSums b g l i) where
+  -- Record i adds its weight w to its row r.
+  pub row-sums-step : (r w : ℕ) → r < 128 → r ≡ rowOf b g i → w ≡ weight b i → RowSums b g (set l r (getD l r 0 + w)) (i + 1)
+  row-sums-step r w h er ew =
+      record { size = length-set l r (getD l r 0 + w) ∙ sums .size; sum-at = λ k hk. go k hk (eqb r k) refl }
+    where
+      own : getD (set l r (getD l r 0 + w)) r 0 ≡ sumTo (adds b g r) (i + 1)
+      own =
+          getD-set-same l r (getD l r 0 + w) 0 (omega (arith, sums .size))
+          ∙ omega (arith, sums .sum-at r h, sumTo-step (adds b g r) i, adds-own b g r i (sym er))
+
+      go : (k : ℕ) → k < 128 → (t : Bool) → eqb r k ≡ t → getD (set l r (getD l r 0 + w)) k 0 ≡ sumTo (adds b g k) (i + 1)
+      go k hk true u = let q : r ≡ k = eqb-true r k u in rw (← q) own
+      go k hk false u =
+          let q : r ≡ k → ⊥ = eqb-false r k u in
+          getD-set-other l r k (getD l r 0 + w) 0 (λ d. q (sym d))
+          ∙ omega (arith, sums .sum-at k hk, sumTo-step (adds b g k) i, adds-other b g k i (λ d. q (er ∙ d)))
+
+  -- No sum exceeds 65,536 a record.
+  pub row-sums-most : RecordsRight b → i ≤ recordsOf b → (k : ℕ) → k < 128 → getD l k 0 ≤ i * 65536
+  row-sums-most right h k hk =
+      rw (sums .sum-at k hk) (sumTo-le (adds b g k) 65536 i (λ j hj. adds-most b g k j (right .right j (omega arith) .weight-most)))
+
+  -- All records make the sums of the rows.
+  pub row-sums-end : i ≡ recordsOf b → (k : ℕ) → k < 128 → getD l k 0 ≡ rowSum b g k
+  unfolding rowSum
+  row-sums-end e k hk = sums .sum-at k hk ∙ ap (sumTo (adds b g k)) e
+
+-- ---- the order of the rows
 
 -- A record above the one before it is in the same row or in a later one.
 next-row : (b : List ℕ) (i : ℕ) → i < recordsOf b → Above (key b (suc i)) (key b i) → rowOf b (symbolsOf b) i ≤ rowOf b (symbolsOf b) (suc i)

@@ -1,17 +1,20 @@
 -- The verdict step by step, as the code finds it.
-use Prim.Native.Nat.{ℕ, zero, suc, _+_, _-_, _<_}
-use native.Mathlib.Numerals.{add-one}
+use Prim.Native.Nat.{ℕ, zero, suc, _+_, _*_, _-_, _<_}
 use native.Mathlib.Omega.{arith}
-use mathlib.Core.Bool.{Bool, true, false}
+use mathlib.Core.Bool.{true, false}
 use mathlib.Core.List.{List}
-use mathlib.Core.Path.{_≡_, refl, sym, _∙_}
+use mathlib.Core.Path.{_≡_, _∙_}
 use lib.IntN.{pos}
+use lib.ListN.{length}
+use borrow.Author.Tests.{eq-eqb, ne-eqb}
 use Rattle.outcome.specs.declared.Outcome.{Outcome}
 use Rattle.outcome.specs.declared.Outcome.the-variants.{Accepted, Refused}
-use Rattle.outcome.specs.declared.Reason.the-variants.{OutOfRange, UnusedNotZero, WeightOutOfRange, NotAscending}
-use Rattle.outcome.specs.Tests.{first}
-use Rattle.model.specs.Records.{key}
-use Rattle.model.specs.Verdict.{rangeAt, unusedAt, weightAt, above, ascends, recordTests}
+use Rattle.outcome.specs.declared.Reason.the-variants.{ModelLength, OutOfRange, UnusedNotZero, WeightOutOfRange, NotAscending, RowSumWrong}
+use Rattle.outcome.specs.Tests.{first, each}
+use Rattle.outcome.proofs.Tests.{first-fails, first-passes, first-after, first-stands}
+use Rattle.model.specs.Records.{recordsOf, statesOf, symbolsOf, key}
+use Rattle.model.specs.Rules.{rowSum}
+use Rattle.model.specs.Verdict.{wholeRecords, rangeAt, unusedAt, weightAt, above, ascends, recordTests, rowTests, modelTests, modelVerdict}
 
 -- The first record has none before it.
 pub ascends-first : (b : List ℕ) (i : ℕ) → i ≡ 0 → ascends b i ≡ true
@@ -51,3 +54,35 @@ module _ (b : List ℕ) (i : ℕ) where
       → first (recordTests b i) ≡ Accepted
   unfolding recordTests first
   record-passes r u w a = rw (r, u, w, a)
+
+-- The outcome of a row by its sum.
+module _ (b : List ℕ) (k : ℕ) where
+  pub row-fails : (rowSum b (symbolsOf b) k ≡ 65536 → ⊥) → first (rowTests b k) ≡ Refused RowSumWrong k (pos 0)
+  unfolding rowTests first
+  row-fails n = rw (ne-eqb _ _ n)
+
+  pub row-passes : rowSum b (symbolsOf b) k ≡ 65536 → first (rowTests b k) ≡ Accepted
+  unfolding rowTests first
+  row-passes e = rw (eq-eqb _ _ e)
+
+-- The outcome of all records.
+abbrev pub recordsOutcome : List ℕ → Outcome
+recordsOutcome b = first (each (recordsOf b) (recordTests b))
+
+-- The verdict by its three parts, in their order.
+module _ (b : List ℕ) where
+  -- The length fails.
+  pub length-decides : wholeRecords (length b) ≡ false → modelVerdict b ≡ Refused ModelLength 0 (pos 0)
+  unfolding modelVerdict modelTests
+  length-decides e = first-fails _ _ (rw e)
+
+  -- The length passes and a record fails.
+  pub records-decide : wholeRecords (length b) ≡ true → (recordsOutcome b ≡ Accepted → ⊥) → modelVerdict b ≡ recordsOutcome b
+  unfolding modelVerdict modelTests
+  records-decide e n = first-passes _ _ (rw e) ∙ first-stands (each (recordsOf b) (recordTests b)) _ n
+
+  -- The length and the records pass.
+  pub rows-decide : wholeRecords (length b) ≡ true → recordsOutcome b ≡ Accepted
+      → modelVerdict b ≡ first (each (statesOf b * symbolsOf b) (rowTests b))
+  unfolding modelVerdict modelTests
+  rows-decide e a = first-passes _ _ (rw e) ∙ first-after (each (recordsOf b) (recordTests b)) _ a

@@ -9,6 +9,7 @@ use mathlib.Core.Logic.{_↔_, _⊎_, inl, inr}
 use mathlib.Core.Path.{_≡_, refl, sym, ap, ap₂, _∙_}
 use lib.IntN.{ℤ}
 use Rattle.outcome.specs.declared.Reason.{Reason}
+use Rattle.outcome.specs.declared.Outcome.{Outcome}
 use Rattle.outcome.specs.declared.Outcome.the-variants.{Accepted, Refused}
 use Rattle.outcome.specs.Tests.{Test, refusal, first, each, Passed, FirstFailure}
 
@@ -36,13 +37,14 @@ pub first-empty : first [] ≡ Accepted
 unfolding first
 first-empty = refl
 
-not-accepted : (r : Reason) (i : ℕ) (k : ℤ) → Refused r i k ≡ Accepted → ⊥
-not-accepted r i k e = let z : _≡_ {A = ℕ} 0 1 = cc in omega arith
+-- No refusal is an acceptance.
+pub refusal-not-accepted : (o : Outcome) {r : Reason} {i : ℕ} {k : ℤ} → o ≡ Accepted → o ≡ Refused r i k → ⊥
+refusal-not-accepted o a e = let z : _≡_ {A = ℕ} 0 1 = cc in omega arith
 
 accepted-cons : (t : Test) (ts : List Test) → first (t ∷ ts) ≡ Accepted → (t .fails ≡ false) × (first ts ≡ Accepted)
 accepted-cons t ts e =
     by-test t
-    (λ f. absurd (not-accepted (t .reason) (t .place) (t .shortfall) (sym (first-fails t ts f) ∙ e)))
+    (λ f. absurd (refusal-not-accepted (first (t ∷ ts)) e (first-fails t ts f)))
     (λ f. (f, sym (first-passes t ts f) ∙ e))
 
 -- ---- acceptance and refusal
@@ -88,7 +90,7 @@ later t ts u f g =
 -- Every refusal is that of the first test that fails.
 pub first-failure : (ts : List Test) (r : Reason) (i : ℕ) (k : ℤ) → first ts ≡ Refused r i k
     → (t : Test) × (FirstFailure ts t × (refusal t ≡ Refused r i k))
-first-failure [] r i k e = absurd (not-accepted r i k (sym e ∙ first-empty))
+first-failure [] r i k e = absurd (refusal-not-accepted (first []) first-empty e)
 first-failure (t ∷ ts) r i k e =
     by-test t
     (λ f. (t, (record { before = []; after = ts; split = refl; passed = tt; fails = f }, sym (first-fails t ts f) ∙ e)))
@@ -125,6 +127,10 @@ each-hit h (suc n) i l e x =
     last-or-below i n l
     (λ q. first-after (each n h) (h n) (rw q at e) ∙ ap (λ j. first (h j)) (sym q))
     (λ b. let p = each-hit h n i b e x in first-stands (each n h) (h n) (λ a. x (sym p ∙ a)) ∙ p)
+
+-- Where a loop ends, it has passed all.
+pub each-end : (h : ℕ → List Test) (n i : ℕ) → first (each i h) ≡ Accepted → i ≡ n → first (each n h) ≡ Accepted
+each-end h n i a e = rw e at a
 
 -- Equal tests at each number below n are equal tests in all.
 pub each-cong : (h k : ℕ → List Test) (n : ℕ) → ((i : ℕ) → i < n → h i ≡ k i) → each n h ≡ each n k

@@ -1,6 +1,7 @@
 -- The laws of sums and of least values.
 use Prim.Native.Nat.{ℕ, zero, suc, _+_, _*_, _≤_, _<_, min}
 use native.Mathlib.Nat.{le-min, le-refl, add-le-add, zero-add, mul-zero, zero-mul, eq-zero-or-pos, not-suc-le-zero, eq-or-lt-of-le, le-of-suc-le-suc}
+use native.Mathlib.Numerals.{add-one}
 use native.Mathlib.Omega.{arith}
 use mathlib.Core.Path.{_≡_, refl, sym, ap, ap₂, _∙_}
 use mathlib.Core.List.{List, [], _∷_, _++_, map, flatMap}
@@ -68,6 +69,11 @@ sum-flatMap h k [] = refl
 sum-flatMap h k (x ∷ l) = sum-append h (k x) (flatMap k l) ∙ ap (λ n. sum h (k x) + n) (sum-flatMap h k l)
 
 -- ---- over the numbers below n
+
+-- One more term, as a loop adds it.
+pub sumTo-step : (h : ℕ → ℕ) (n : ℕ) → sumTo h (n + 1) ≡ sumTo h n + h n
+unfolding sumTo
+sumTo-step h n = rw add-one
 
 pub sumTo-cong : (h k : ℕ → ℕ) (n : ℕ) → ((i : ℕ) → i < n → h i ≡ k i) → sumTo h n ≡ sumTo k n
 unfolding sumTo
