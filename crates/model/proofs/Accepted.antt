@@ -1,17 +1,18 @@
 -- The verdict accepts exactly the model files, a refusal is that of the first test that fails, and a model file is a model of crate ppda.
 use Prim.Native.Nat.{ℕ, zero, suc, _+_, _*_, _%_, _≤_, _<_}
 use native.Mathlib.Omega.{arith}
-use mathlib.Core.Bool.{Bool, true, false, not, _&&_, _||_, true≢false, false≢true, and-eq-true-iff}
+use mathlib.Core.Bool.{Bool, true, false, _&&_, _||_, false≢true}
 use mathlib.Core.List.{List, [], _∷_}
 use mathlib.Core.Logic.{_↔_, Iff·trans, _⊎_, inl, inr}
 use mathlib.Core.Path.{_≡_, refl, sym, _∙_}
 use lib.Dec.{eqb, leb, ltb}
 use lib.IntN.{ℤ}
 use lib.ListN.{length}
-use borrow.Author.Tests.{ltb-true, ltb-false, leb-true, eqb-true, eqb-false, not-false, lt-ltb, le-ltb, le-leb, eq-eqb, ne-eqb}
+use borrow.Author.Tests.{ltb-true, ltb-false, eqb-true, eqb-false, not-false, lt-ltb, le-ltb, eq-eqb, ne-eqb}
 use Rattle.outcome.specs.declared.Reason.{Reason}
 use Rattle.outcome.specs.declared.Outcome.the-variants.{Accepted, Refused}
 use Rattle.outcome.specs.Tests.{Test, refusal, first, each, Passed, FirstFailure}
+use Rattle.outcome.proofs.Exactly.{lt-exactly, le-exactly, eq-exactly, both, or-exactly, not-exactly}
 use Rattle.outcome.proofs.Tests.{accepted-exactly, refused-exactly, first-failure, passed-append, passed-each}
 use Rattle.ppda.specs.Rules.{pushed, Below, IsRule, IsModel}
 use Rattle.model.specs.Records.{recordsOf, statesOf, symbolsOf, state, symbol, target, pushes, top, under, weight, key}
@@ -22,30 +23,6 @@ use Rattle.model.proofs.Records.{in-listTo, state-below, target-below, 
 use Rattle.model.proofs.Rows.{row-sum, row-split, row-below}
 
 -- ---- tests and what they say
-
-lt-exactly : (m n : ℕ) → (ltb m n ≡ true) ↔ (m < n)
-lt-exactly m n = (ltb-true m n, lt-ltb m n)
-
-le-exactly : (m n : ℕ) → (leb m n ≡ true) ↔ (m ≤ n)
-le-exactly m n = (leb-true m n, le-leb m n)
-
-eq-exactly : (m n : ℕ) → (eqb m n ≡ true) ↔ (m ≡ n)
-eq-exactly m n = (eqb-true m n, eq-eqb m n)
-
-both : {A B : Type 0} (s t : Bool) → (s ≡ true) ↔ A → (t ≡ true) ↔ B → ((s && t) ≡ true) ↔ (A × B)
-both s t f g = (
-  λ e. let h = and-eq-true-iff s t .0 e in (f .0 (h .0), g .0 (h .1)),
-  λ h. and-eq-true-iff s t .1 (f .1 (h .0), g .1 (h .1)),
-)
-
--- One of two holds exactly where the second does when the first does not.
-or-exactly : (s t : Bool) → ((s || t) ≡ true) ↔ (s ≡ false → t ≡ true)
-or-exactly true t = (λ e f. absurd (true≢false f), λ f. refl)
-or-exactly false t = (λ e f. e, λ f. f refl)
-
--- What is tested for holds exactly where the test does not fail.
-not-exactly : (t : Bool) → (not t ≡ false) ↔ (t ≡ true)
-not-exactly t = (not-false t, λ e. rw e)
 
 whole-exactly : (n : ℕ) → (wholeRecords n ≡ true) ↔ ((0 < n) × ((n % 10 ≡ 0) × (n ≤ 10240)))
 unfolding wholeRecords
