@@ -1,0 +1,103 @@
+-- Two ways through a block: nested by state, symbol and exit, as the tests are defined, and number by number, as the code goes.
+-- Besides, the values past the first records, and the list of values that a loop fills.
+use Prim.Native.Nat.{ℕ, zero, suc, _+_, _*_, _/_, _%_, _<_}
+use native.Mathlib.Nat.{add-zero, add-suc, zero-mul, suc-mul, mod-lt, mod-eq-of-lt, div-eq-of-lt, div-add-mod', div-lt-iff-lt-mul, mul-add-div-right, mul-add-mod-self-right}
+use native.Mathlib.Omega.{arith}
+use mathlib.Core.Bool.{Bool, true, false}
+use mathlib.Core.List.{List, _++_, append-nil, append-assoc}
+use mathlib.Core.Path.{_≡_, refl, sym, ap, ap₂, subst, _∙_}
+use lib.Dec.{eqb}
+use lib.ListN.{length, getD, set, drop, replicate}
+use lib.Seq.{getD-drop, getD-set-same, getD-set-other}
+use borrow.Author.Tests.{eqb-true, eqb-false}
+use Rattle.bytes.specs.Words.{wordAt}
+use Rattle.outcome.specs.Tests.{Test, each}
+use Rattle.outcome.proofs.Tests.{each-cong}
+use Rattle.delivery.specs.Records.{valueOf}
+use Rattle.delivery.specs.Numbers.{entryAt}
+use Rattle.delivery.specs.Layout.{eachEntry, eachRow}
+use Rattle.delivery.specs.Walks.{Values}
+
+-- ---- n times m tests, nested and in one sequence
+
+-- The first a, then b more.
+each-append : (a b : ℕ) (h : ℕ → List Test) → each a h ++ each b (λ j. h (a + j)) ≡ each (a + b) h
+unfolding each
+each-append a zero h = append-nil (each a h) ∙ ap (λ n. each n h) (sym (add-zero a))
+each-append a (suc b) h =
+    sym (append-assoc (each a h) (each b (λ j. h (a + j))) (h (a + b))) ∙ ap (λ l. l ++ h (a + b)) (each-append a b h)
+    ∙ ap (λ n. each n h) (sym (add-suc a b))
+
+pub each-flat : (n m : ℕ) (h : ℕ → List Test) → each n (λ i. each m (λ j. h (i * m + j))) ≡ each (n * m) h
+unfolding each
+each-flat zero m h = ap (λ k. each k h) (sym (zero-mul m))
+each-flat (suc n) m h =
+    ap (λ l. l ++ each m (λ j. h (n * m + j))) (each-flat n m h) ∙ each-append (n * m) m h ∙ ap (λ k. each k h) (sym (suc-mul n m))
+
+-- ---- rows and entries by their numbers
+
+-- Row number p × g + z is (p, z).
+row-state : (g p z : ℕ) → z < g → (p * g + z) / g ≡ p
+row-state g p z l = mul-add-div-right {m = g} (omega arith) p z ∙ ap (λ k. p + k) (div-eq-of-lt l) ∙ add-zero p
+
+row-symbol : (g p z : ℕ) → z < g → (p * g + z) % g ≡ z
+row-symbol g p z l = mul-add-mod-self-right p g z ∙ mod-eq-of-lt l
+
+-- Every number below s × g is that of a row.
+pub row-of : (s g k : ℕ) → 0 < g → k < s * g → (k / g < s) × (k % g < g) × (k / g * g + k % g ≡ k)
+row-of s g k some l = (div-lt-iff-lt-mul some .1 l, mod-lt k some, div-add-mod' k g)
+
+pub rows-by-number : (s g : ℕ) (h : ℕ → ℕ → List Test) → 0 < g → eachRow s g h ≡ each (s * g) (λ k. h (k / g) (k % g))
+unfolding eachRow
+rows-by-number s g h some =
+    each-cong _ _ s (λ p lp. each-cong _ _ g (λ z lz. sym (ap₂ h (row-state g p z lz) (row-symbol g p z lz))))
+    ∙ each-flat s g (λ k. h (k / g) (k % g))
+
+pub entries-by-row : (s g : ℕ) (h : ℕ → ℕ → ℕ → List Test) → 0 < g
+    → eachEntry s g h ≡ each (s * g) (λ k. each s (h (k / g) (k % g)))
+unfolding eachEntry eachRow
+entries-by-row s g h some = rows-by-number s g (λ p z. each s (h p z)) some
+
+pub entries-by-number : (s g : ℕ) (h : ℕ → ℕ → ℕ → List Test) (k : ℕ → List Test)
+    → ((p z q : ℕ) → p < s → z < g → q < s → h p z q ≡ k (entryAt s g p z q)) → eachEntry s g h ≡ each (s * g * s) k
+unfolding eachEntry
+entries-by-number s g h k e =
+    each-cong _ _ s (λ p lp. each-cong _ _ g (λ z lz. each-cong _ _ s (λ q lq. e p z q lp lz lq)))
+    ∙ each-flat s g (λ r. each s (λ q. k (r * s + q))) ∙ each-flat (s * g) s k
+
+-- ---- values past the first n records
+
+word-past : (d : List ℕ) (n at to : ℕ) → n + at ≡ to → wordAt (drop n d) at ≡ wordAt d to
+unfolding wordAt
+word-past d n at to e = rw (getD-drop n d at 0, e, byte 1, byte 2, byte 3)
+  where
+    byte : (j : ℕ) → getD (drop n d) (at + j) 0 ≡ getD d (to + j) 0
+    byte j = getD-drop n d (at + j) 0 ∙ ap (λ k. getD d k 0) (omega arith)
+
+pub rest-value : (d : List ℕ) (n i : ℕ) → valueOf (drop (8 * n) d) i ≡ valueOf d (n + i)
+unfolding valueOf
+rest-value d n i = word-past d (8 * n) (8 * i + 4) (8 * (n + i) + 4) (omega arith)
+
+-- ---- the values of the first n records, one after the other
+
+zeros : (n e : ℕ) → getD {A = ℕ} (replicate n 0) e 0 ≡ 0
+zeros zero e = refl
+zeros (suc n) zero = refl
+zeros (suc n) (suc e) = zeros n e
+
+pub values-none : (d : List ℕ) → Values d 0 (replicate 1024 0)
+values-none d = record { value = λ e h. absurd (omega arith); none = λ e h. zeros 1024 e }
+
+pub values-step : {d : List ℕ} {n : ℕ} {l : List ℕ} (v : ℕ) → Values d n l → n < length l → v ≡ valueOf d n → Values d (n + 1) (set l n v)
+values-step {d} {n} {l} v before room e =
+    record {
+      value = λ i h. go i h (eqb i n) refl;
+      none = λ i h. getD-set-other l n i v 0 (λ q. omega arith) ∙ before .none i (omega arith);
+    }
+  where
+    go : (i : ℕ) → i < n + 1 → (t : Bool) → eqb i n ≡ t → getD (set l n v) i 0 ≡ valueOf d i
+    go i h true u = let q : i ≡ n = eqb-true i n u in rw q (getD-set-same l n v 0 room ∙ e)
+    go i h false u = let q : i ≡ n → ⊥ = eqb-false i n u in getD-set-other l n i v 0 q ∙ before .value i (omega arith)
+
+pub values-end : {d : List ℕ} {n m : ℕ} {l : List ℕ} → Values d n l → n ≡ m → Values d m l
+values-end {d} {l = l} v e = subst (λ k. Values d k l) e v

@@ -1,0 +1,21 @@
+-- `in_range`: the tests are the definition's, at the value read.
+use Rattle.delivery.specs.Layout.{inRange}
+use borrow.Author.Needs.{needs}
+use Rattle.delivery.proofs.record.in_range.Statement.{statement}
+use Rattle.delivery.proofs.record.in_range.Tie as tie
+
+value-of-requires : tie.Need-value-of-requires
+value-of-requires c κs = search needs
+
+least-requires : tie.Need-least-requires
+least-requires c κs = search needs
+
+most-requires : tie.Need-most-requires
+most-requires c κs = search needs
+
+returns : tie.Need-returns
+unfolding inRange
+returns c = cc
+
+pub in-range-spec : {M : Type 1} → statement M
+in-range-spec = tie.close (tie.spec value-of-requires least-requires most-requires returns)

@@ -1,0 +1,53 @@
+-- The tests of a delivery's layout: document 01's 20 to 22.
+use Prim.Native.Nat.{ℕ, _+_}
+use mathlib.Core.Bool.{Bool, true, false, not, _&&_}
+use mathlib.Core.List.{List, [], _∷_, _++_}
+use lib.Dec.{eqb, leb}
+use Rattle.outcome.specs.declared.Reason.the-variants.{NotDue, ValueOutOfRange}
+use Rattle.outcome.specs.Tests.{Test, plain, each}
+use Rattle.delivery.specs.declared.shape.Block.{Block}
+use Rattle.delivery.specs.declared.shape.Block.the-variants.{Uppers, Lowers, Means}
+use Rattle.delivery.specs.declared.shape.Shape.{Shape}
+use Rattle.delivery.specs.Records.{byteOf, valueOf, kindOf, leastOf, mostOf}
+use Rattle.delivery.specs.Shapes.{entriesIn, hasLowers, hasMeans, meansFrom}
+use Rattle.delivery.specs.Numbers.{entryAt, rowAt}
+
+-- The tests of all entries of a model with s states and g symbols, ascending by (p, Z, q), and of all rows, ascending by (p, Z).
+unfoldable pub eachEntry : ℕ → ℕ → (ℕ → ℕ → ℕ → List Test) → List Test
+eachEntry s g h = each s (λ p. each g (λ z. each s (h p z)))
+
+unfoldable pub eachRow : ℕ → ℕ → (ℕ → ℕ → List Test) → List Test
+eachRow s g h = each s (λ p. each g (h p))
+
+-- Tests that stand only where a block does.
+abbrev pub onlyIf : Bool → List Test → List Test
+onlyIf true ts = ts
+onlyIf false ts = []
+
+-- Record i has the kind of the block and the p, Z, q due there, and its value is in the block's range.
+unfoldable pub isDue : List ℕ → ℕ → Block → ℕ → ℕ → ℕ → Bool
+isDue d i k p z q = eqb (byteOf d i 0) (kindOf k) && (eqb (byteOf d i 1) p && (eqb (byteOf d i 2) z && eqb (byteOf d i 3) q))
+
+unfoldable pub inRange : List ℕ → ℕ → Block → Bool
+inRange d i k = leb (leastOf k) (valueOf d i) && leb (valueOf d i) (mostOf k)
+
+-- The tests of record i: 21, then 22.
+unfoldable pub recordTests : List ℕ → ℕ → Block → ℕ → ℕ → ℕ → List Test
+recordTests d i k p z q = plain (not (isDue d i k p z q)) NotDue i ∷ plain (not (inRange d i k)) ValueOutOfRange i ∷ []
+
+-- The records of each block of the file d.
+unfoldable pub upperRecords : ℕ → ℕ → List ℕ → List Test
+upperRecords s g d = eachEntry s g (λ p z q. recordTests d (entryAt s g p z q) Uppers p z q)
+
+unfoldable pub lowerRecords : ℕ → ℕ → List ℕ → List Test
+lowerRecords s g d = eachEntry s g (λ p z q. recordTests d (entriesIn s g + entryAt s g p z q) Lowers p z q)
+
+unfoldable pub meanRecords : ℕ → ℕ → Shape → List ℕ → List Test
+meanRecords s g h d = eachRow s g (λ p z. recordTests d (meansFrom s g h + rowAt g p z) Means p z 0)
+
+-- Record by record, for a file of shape h.
+unfoldable pub layoutTests : ℕ → ℕ → Shape → List ℕ → List Test
+layoutTests s g h d =
+    upperRecords s g d
+    ++ (onlyIf (hasLowers h) (lowerRecords s g d)
+    ++ onlyIf (hasMeans h) (meanRecords s g h d))

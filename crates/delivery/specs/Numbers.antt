@@ -1,0 +1,24 @@
+-- The numbers of a delivery as vectors: blocks ascend by (p, Z, q), mean steps by (p, Z).
+use Prim.Native.Nat.{ℕ, _+_, _*_}
+use mathlib.Core.List.{List}
+use Rattle.ppda.specs.Equations.{Vector, RowVector}
+use Rattle.delivery.specs.declared.shape.Shape.{Shape}
+use Rattle.delivery.specs.Records.{valueOf}
+use Rattle.delivery.specs.Shapes.{entriesIn, meansFrom}
+
+-- The number of the entry (p, z, q) in a block, and of the row (p, z).
+abbrev pub entryAt : ℕ → ℕ → ℕ → ℕ → ℕ → ℕ
+entryAt s g p z q = (p * g + z) * s + q
+
+abbrev pub rowAt : ℕ → ℕ → ℕ → ℕ
+rowAt g p z = p * g + z
+
+-- The uppers, the lowers and the mean steps of a file.
+unfoldable pub uppersOf : ℕ → ℕ → List ℕ → Vector
+uppersOf s g d p z q = valueOf d (entryAt s g p z q)
+
+unfoldable pub lowersOf : ℕ → ℕ → List ℕ → Vector
+lowersOf s g d p z q = valueOf d (entriesIn s g + entryAt s g p z q)
+
+unfoldable pub meansOf : ℕ → ℕ → Shape → List ℕ → RowVector
+meansOf s g h d p z = valueOf d (meansFrom s g h + rowAt g p z)

@@ -1,0 +1,22 @@
+-- The tests as the code walks through them: row by row, row number k being (k / g, k % g), and by exits within a row.
+use Prim.Native.Nat.{ℕ, _+_, _*_, _/_, _%_, _≤_, _<_}
+use mathlib.Core.List.{List}
+use mathlib.Core.Path.{_≡_}
+use lib.ListN.{getD}
+use Rattle.outcome.specs.Tests.{Test, each}
+use Rattle.delivery.specs.declared.shape.Block.{Block}
+use Rattle.delivery.specs.Records.{valueOf}
+use Rattle.delivery.specs.Layout.{recordTests}
+
+-- The record for exit q of a row whose records start at record `at`.
+abbrev pub recordOfRow : List ℕ → Block → ℕ → ℕ → ℕ → ℕ → List Test
+recordOfRow d k at p z q = recordTests d (at + q) k p z q
+
+-- The records of row number j of a block that starts at record `from`, with n records a row.
+abbrev pub rowOfBlock : List ℕ → Block → ℕ → ℕ → ℕ → ℕ → List Test
+rowOfBlock d k from n g j = each n (recordOfRow d k (from + j * n) (j / g) (j % g))
+
+-- The list has the values of the first n records of d, and 0 from there on.
+pub record Values (d : List ℕ) (n : ℕ) (l : List ℕ) : Type 0 where
+  pub value : (e : ℕ) → e < n → getD l e 0 ≡ valueOf d e
+  pub none : (e : ℕ) → n ≤ e → getD l e 0 ≡ 0
