@@ -128,6 +128,20 @@ each-hit h (suc n) i l e x =
     (λ q. first-after (each n h) (h n) (rw q at e) ∙ ap (λ j. first (h j)) (sym q))
     (λ b. let p = each-hit h n i b e x in first-stands (each n h) (h n) (λ a. x (sym p ∙ a)) ∙ p)
 
+-- A loop that finds a refusal o at i, after all before it have passed, has found the outcome.
+pub each-refused : (h : ℕ → List Test) (n i : ℕ) (o : Outcome) {r : Reason} {j : ℕ} {k : ℤ} → i < n → first (each i h) ≡ Accepted
+    → o ≡ first (h i) → o ≡ Refused r j k → o ≡ first (each n h)
+each-refused h n i o l a e f = e ∙ sym (each-hit h n i l a (λ b. refusal-not-accepted o (e ∙ b) f))
+
+-- The same for two lists of tests one after the other.
+pub first-refused : (xs ys : List Test) (o : Outcome) {r : Reason} {j : ℕ} {k : ℤ} → o ≡ first xs → o ≡ Refused r j k
+    → o ≡ first (xs ++ ys)
+first-refused xs ys o e f = e ∙ sym (first-stands xs ys (λ b. refusal-not-accepted o (e ∙ b) f))
+
+-- And where the first list has passed: the rest decides.
+pub first-rest : (xs ys : List Test) (o a : Outcome) → a ≡ first xs → a ≡ Accepted → o ≡ first ys → o ≡ first (xs ++ ys)
+first-rest xs ys o a e f d = d ∙ sym (first-after xs ys (sym e ∙ f))
+
 -- Where a loop ends, it has passed all.
 pub each-end : (h : ℕ → List Test) (n i : ℕ) → first (each i h) ≡ Accepted → i ≡ n → first (each n h) ≡ Accepted
 each-end h n i a e = rw e at a

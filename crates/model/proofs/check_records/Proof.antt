@@ -3,7 +3,7 @@ use Prim.Native.Nat.{_-_, _≤_}
 use native.Mathlib.Omega.{arith}
 use mathlib.Core.Path.{_≡_, sym, _∙_}
 use borrow.Author.Needs.{needs}
-use Rattle.outcome.proofs.Tests.{each-none, each-more, each-hit, refusal-not-accepted, each-end}
+use Rattle.outcome.proofs.Tests.{each-none, each-more, each-refused, each-end}
 use Rattle.outcome.specs.Tests.{first, each}
 use Rattle.outcome.specs.declared.Outcome.the-variants.{Accepted}
 use Rattle.model.specs.Verdict.{recordTests}
@@ -27,10 +27,8 @@ enum-told c = search needs
 
 returns : tie.Need-returns Inv-loop μ-loop
 returns c =
-    let found = c .before .before .check .ensures in
-    found
-    ∙ sym (each-hit _ _ _ (c .before .before .before .loop-test .taken) (c .before .before .before .before .loop .inv .1)
-    (λ a. refusal-not-accepted _ (found ∙ a) (c .enum-told .given .1)))
+    each-refused _ _ _ _ (c .before .before .before .loop-test .taken) (c .before .before .before .before .loop .inv .1)
+    (c .before .before .check .ensures) (c .enum-told .given .1)
 
 enum-told-2 : tie.Need-enum-told-2 Inv-loop μ-loop
 enum-told-2 c = search needs

@@ -4,7 +4,7 @@ use native.Mathlib.Nat.{mul-le-mul, mul-le-mul-right}
 use native.Mathlib.Omega.{arith}
 use mathlib.Core.Path.{_≡_, sym, _∙_}
 use borrow.Author.Needs.{needs}
-use Rattle.outcome.proofs.Tests.{each-none, each-more, each-hit, refusal-not-accepted, each-end}
+use Rattle.outcome.proofs.Tests.{each-none, each-more, each-refused, each-end}
 use Rattle.outcome.specs.Tests.{first, each}
 use Rattle.outcome.specs.declared.Outcome.the-variants.{Accepted}
 use Rattle.delivery.specs.Walks.{rowOfBlock}
@@ -52,10 +52,8 @@ enum-told c = search needs
 
 returns : tie.Need-returns Inv-loop μ-loop
 returns c =
-    let found = c .before .before .check-row .ensures in
-    found
-    ∙ sym (each-hit _ _ _ (omega arith) (c .before .before .before .before .loop .inv .3)
-    (λ a. refusal-not-accepted _ (found ∙ a) (c .enum-told .given .1)))
+    each-refused _ _ _ _ (omega arith) (c .before .before .before .before .loop .inv .3)
+    (c .before .before .check-row .ensures) (c .enum-told .given .1)
 
 enum-told-2 : tie.Need-enum-told-2 Inv-loop μ-loop
 enum-told-2 c = search needs
