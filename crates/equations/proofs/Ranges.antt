@@ -1,0 +1,89 @@
+-- Numbers within their limits: places in lists, the sizes of an accepted model, what its records name, and where its rows start.
+use Prim.Native.Nat.{ℕ, _+_, _*_, _≤_, _<_}
+use native.Mathlib.Nat.{le-refl, le-trans, mul-le-mul}
+use native.Mathlib.Omega.{arith}
+use mathlib.Core.Bool.{Bool, true, false}
+use mathlib.Core.List.{List}
+use mathlib.Core.Path.{_≡_, refl}
+use lib.Dec.{ltb}
+use lib.ListN.{length, getD, set}
+use lib.Seq.{getD-set-same, getD-set-other}
+use borrow.Author.Tests.{ltb-true, ltb-false}
+use borrow.Author.Count.{below-more}
+use Rattle.ppda.specs.Rules.{IsModel}
+use Rattle.model.specs.Records.{recordsOf, symbolsOf, target, top, under}
+use Rattle.model.proofs.Records.{states-most, symbols-most}
+use Rattle.model.specs.Rules.{rulesOf, rowOf}
+use Rattle.model.proofs.Rows.{rows-ascend}
+use Rattle.model.proofs.Accepted.{is-model}
+use Rattle.equations.specs.Held.{Sized, StartsAt}
+
+-- An entry's place is one of 1,024.
+pub place : (row s q : ℕ) → row < 128 → s < 9 → q < 8 → row * s + q < 1024
+place row s q hr hs hq =
+    let most : row * s ≤ 127 * 8 = mul-le-mul {n₂ = 127} {m₂ = 8} (omega arith) (omega arith) in
+    omega arith
+
+module _ {b : List ℕ} {s g : ℕ} (sized : Sized b s g) where
+  pub few-states : s < 9
+  few-states = omega (arith, sized .states, states-most b (sized .file .records .right))
+
+  pub few-symbols : g < 17
+  few-symbols = omega (arith, sized .symbols, symbols-most b (sized .file .records .right))
+
+  pub some-symbols : 0 < g
+  unfolding symbolsOf
+  some-symbols = omega (arith, sized .symbols)
+
+  pub few-rows : s * g ≤ 128
+  few-rows = mul-le-mul {n₂ = 8} {m₂ = 16} (omega (arith, few-states)) (omega (arith, few-symbols))
+
+  pub few-entries : s * g * s ≤ 1024
+  few-entries = mul-le-mul {n₂ = 128} {m₂ = 8} few-rows (omega (arith, few-states))
+
+  pub record-within : {i : ℕ} → i < recordsOf b → 10 * i + 9 < length b
+  record-within l = omega (arith, sized .file .records .whole)
+
+  -- What bounds the places that record i names.
+  pub record-sizes : {i : ℕ} → i < recordsOf b → (s < 9) × (g < 17) × (target b i < 8) × (top b i < 16) × (under b i < 16)
+  record-sizes {i} l =
+      let right = sized .file .records .right i l in
+      omega (arith, few-states, few-symbols, right .target-range, right .top-range, right .under-range)
+
+  -- The theory's model.
+  pub sized-model : IsModel s g (rulesOf b)
+  sized-model = rw (sized .states, sized .symbols) (is-model b (sized .file))
+
+-- ---- where a row starts
+
+-- The records ascend, so the first record of row k or later is where row k starts.
+pub starts-here : {b : List ℕ} {s g k a : ℕ} → Sized b s g → a < recordsOf b → ((j : ℕ) → j < a → rowOf b g j < k) → k ≤ rowOf b g a
+    → StartsAt b g k a
+starts-here {b} {s} {g} {k} {a} sized l before here =
+    record {
+      within = omega arith;
+      before = before;
+      after = λ i h m. le-trans here (rw (sized .symbols) (rows-ascend b (sized .file) a i h m));
+    }
+
+-- Where every record is of an earlier row, row k starts at the end.
+pub starts-at-end : {b : List ℕ} {g k a : ℕ} → recordsOf b ≤ a → a ≤ recordsOf b → ((j : ℕ) → j < a → rowOf b g j < k) → StartsAt b g k a
+starts-at-end all within before = record { within = within; before = before; after = λ i h m. absurd (omega arith) }
+
+-- The list says where one row more starts.
+pub starts-more : {b : List ℕ} {g k a : ℕ} (l : List ℕ) → k < length l → ((e : ℕ) → e < k → StartsAt b g e (getD l e 0))
+    → StartsAt b g k a → (e : ℕ) → e < k + 1 → StartsAt b g e (getD (set l k a) e 0)
+starts-more {b} {g} {k} {a} l h before here =
+    below-more (λ e. StartsAt b g e (getD (set l k a) e 0)) k
+    (λ e m. rw (getD-set-other l k e a 0 (λ q. omega arith)) (before e m))
+    (rw (getD-set-same l k a 0 h) here)
+
+-- A row ends no earlier than it starts.
+pub starts-ascend : {b : List ℕ} {g k a e : ℕ} → StartsAt b g k a → StartsAt b g (k + 1) e → a ≤ e
+starts-ascend {b} {g} {k} {a} {e} start end = go (ltb e a) refl
+  where
+    go : (t : Bool) → ltb e a ≡ t → a ≤ e
+    go true q =
+        let l : e < a = ltb-true e a q in
+        absurd (omega (arith, start .before e l, end .after e (le-refl e) (omega (arith, start .within))))
+    go false q = ltb-false e a q

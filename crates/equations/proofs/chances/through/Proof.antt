@@ -1,0 +1,97 @@
+-- `through`: by how many symbols the record pushes, as in the definition.
+use Prim.Native.Nat.{_*_, _^_, _≤_}
+use native.Mathlib.Nat.{mul-le-mul}
+use native.Mathlib.Omega.{arith}
+use mathlib.Core.Path.{sym, _∙_}
+use borrow.Author.Tests.{eq-eqb, ne-eqb}
+use borrow.Author.Needs.{needs}
+use Rattle.equations.proofs.Ranges.{record-sizes}
+use Rattle.equations.proofs.Sums.{pushes-nothing, pushes-one, pushes-two}
+use Rattle.equations.proofs.chances.through.Statement.{statement}
+use Rattle.equations.proofs.chances.through.Tie as tie
+
+field-requires : tie.Need-field-requires
+field-requires c κs = search needs
+
+field-requires-2 : tie.Need-field-requires-2
+field-requires-2 c κs = search needs
+
+mul-result : tie.Need-mul-result
+mul-result c =
+    let pre = c .before .before .before .before .before .pre in omega (arith, mul-le-mul (pre .3) (pre .3))
+
+returns : tie.Need-returns
+returns c =
+    let pre = c .before .before .before .before .before .pre in (
+      rw (
+        pushes-nothing _ _ _ (sym (c .before .before .field2 .ensures .0) ∙ c .before .if1 .taken),
+        eq-eqb _ _ (sym (c .before .before .before .field .ensures .0) ∙ c .if2 .taken),
+      ) (omega arith),
+      omega (arith, mul-le-mul (pre .3) (pre .3)),
+    )
+
+returns-2 : tie.Need-returns-2
+returns-2 c = (
+  rw (
+    pushes-nothing _ _ _ (sym (c .before .before .field2 .ensures .0) ∙ c .before .if1 .taken),
+    ne-eqb _ _ (λ e. c .if2 .left (c .before .before .before .field .ensures .0 ∙ e)),
+  ) (omega arith),
+  omega arith,
+)
+
+field-requires-3 : tie.Need-field-requires-3
+field-requires-3 c κs = search needs
+
+value-requires : tie.Need-value-requires
+value-requires c κs =
+    let pre = c .before .before .before .before .before .before .pre in omega (arith, record-sizes (pre .0) (pre .1))
+
+one-most : (c : tie.After-value) → c .before .before .before .before .before .before .before .args .d * c .value .result ≤ 2 ^ 20 * 2097152
+one-most c =
+    let pre = c .before .before .before .before .before .before .before .pre in
+    mul-le-mul {m₂ = 2097152} (pre .3) (rw (c .value .ensures .0) (pre .2 _))
+
+mul-result-2 : tie.Need-mul-result-2
+mul-result-2 c = omega (arith, one-most c)
+
+returns-3 : tie.Need-returns-3
+returns-3 c = (
+  rw (pushes-one _ _ _ (sym (c .before .before .before .before .field2 .ensures .0) ∙ c .before .if3 .taken)) (cc),
+  omega (arith, one-most c),
+)
+
+field-requires-4 : tie.Need-field-requires-4
+field-requires-4 c κs = search needs
+
+through-two-requires : tie.Need-through-two-requires
+through-two-requires c κs =
+    let pre = c .before .before .before .before .before .before .before .pre in
+    let small = record-sizes (pre .0) (pre .1) in
+    (small .0, small .1, omega arith, omega arith, omega arith, omega arith, pre .2)
+
+returns-4 : tie.Need-returns-4
+returns-4 c = (
+  rw (pushes-two _ _ _
+      (λ e. c .before .before .before .before .if1 .left (c .before .before .before .before .before .field2 .ensures .0 ∙ e))
+      (λ e. c .before .before .if3 .left (c .before .before .before .before .before .field2 .ensures .0 ∙ e)))
+      (c .through-two .ensures .0
+      ∙ simp (c .before .before .before .before .before .before .field .ensures .0, c .before .before .before .field3 .ensures .0, c .before .field4 .ensures .0)),
+  c .through-two .ensures .1,
+)
+
+pub through-spec : {M : Type 1} → statement M
+through-spec =
+    tie.close
+    (tie.spec
+    field-requires
+    field-requires-2
+    mul-result
+    returns
+    returns-2
+    field-requires-3
+    value-requires
+    mul-result-2
+    returns-3
+    field-requires-4
+    through-two-requires
+    returns-4)

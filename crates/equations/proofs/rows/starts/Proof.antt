@@ -1,0 +1,71 @@
+-- `starts`: each row starts where `start` finds it, and what was passed before stays earlier than the next row.
+use Prim.Native.Nat.{ℕ, _+_, _≤_, _<_, _-_}
+use native.Mathlib.Omega.{arith}
+use mathlib.Core.Path.{_≡_, refl}
+use lib.ListN.{length-set, length, getD}
+use borrow.Author.Count.{below-none}
+use Rattle.model.specs.Records.{recordsOf}
+use Rattle.model.specs.Rules.{rowOf}
+use Rattle.equations.specs.Held.{StartsAt}
+use Rattle.equations.proofs.Ranges.{few-rows, starts-more}
+use Rattle.equations.proofs.rows.starts.Statement.{statement}
+use Rattle.equations.proofs.rows.starts.Tie as tie
+
+abbrev Inv-loop : tie.InvT-loop
+Inv-loop model s g n starts₀ at₀ k₀ starts at k =
+    (k ≤ n + 1) × (n ≤ 128) × (length starts ≡ 129) × (at ≤ recordsOf model) × ((j : ℕ) → j < at → rowOf model g j < k)
+    × ((e : ℕ) → e < k → StartsAt model g e (getD starts e 0))
+
+abbrev μ-loop : tie.MeasureT-loop
+μ-loop model s g n starts₀ at₀ k₀ starts at k = n + 1 - k
+
+mul-n : tie.Need-mul-n Inv-loop μ-loop
+mul-n c = omega (arith, few-rows (c .before .pre))
+
+loop-holds : tie.Need-loop-holds Inv-loop μ-loop
+loop-holds c = (omega arith, few-rows (c .before .pre), refl, omega arith, below-none _, below-none _)
+
+start-requires : tie.Need-start-requires Inv-loop μ-loop
+start-requires c κs = (c .before .before .before .pre, c .before .loop .inv .3, c .before .loop .inv .4)
+
+mul-starts : tie.Need-mul-starts Inv-loop μ-loop
+mul-starts c = omega arith
+
+array-write-starts : tie.Need-array-write-starts Inv-loop μ-loop
+array-write-starts c = omega arith
+
+add-k : tie.Need-add-k Inv-loop μ-loop
+add-k c = omega arith
+
+loop-less : tie.Need-loop-less Inv-loop μ-loop
+loop-less c = omega arith
+
+loop-again : tie.Need-loop-again Inv-loop μ-loop
+loop-again c =
+    let inv = c .before .before .loop .inv in (
+      omega arith,
+      inv .1,
+      simp length-set (inv .2),
+      c .start .ensures .within,
+      λ j l. omega (arith, c .start .ensures .before j l),
+      starts-more (c .before .before .loop .starts) (omega arith) (inv .5) (c .start .ensures),
+    )
+
+returns : tie.Need-returns Inv-loop μ-loop
+returns c = λ k h. c .before .loop .inv .5 k (omega arith)
+
+pub starts-spec : {M : Type 1} → statement M
+starts-spec =
+    tie.close
+    (tie.spec
+    Inv-loop
+    μ-loop
+    mul-n
+    loop-holds
+    start-requires
+    mul-starts
+    array-write-starts
+    add-k
+    loop-less
+    loop-again
+    returns)

@@ -1,0 +1,111 @@
+// The live marks, by rounds of f from zero everywhere.
+
+use super::chances::f;
+use model::record::row_number;
+ghost use mathlib.Core.Path.{_≡_};
+ghost use mathlib.Core.Bool.{true};
+ghost use Prim.Native.Nat.{ℕ, _+_, _*_, _≤_, _<_};
+ghost use lib.ListN.{getD};
+ghost use Rattle.ppda.specs.Equations.{entries};
+ghost use Rattle.ppda.specs.Live.{alive};
+ghost use Rattle.model.specs.Rules.{rulesOf};
+ghost use Rattle.equations.specs.Held.{Sized, Starts, AtMost, Same};
+ghost use Rattle.equations.specs.Rounds.{nextMark, RoundTo};
+
+// The mark of entry (p, z, q) after one more round: 1 where f of the marks is above 0.
+fn next_mark(
+    model: &[u8],
+    starts: &[usize; 129],
+    marks: &[u32; 1024],
+    s: usize,
+    g: usize,
+    p: usize,
+    z: usize,
+    q: usize,
+) -> u32
+    requires { ⌜ Sized (now model) s g × Starts (now model) g (s * g) (now starts) × AtMost 1 (now marks) × (p < s) × (z < g) × (q < s) ⌝ }
+    ensures { λ r. ⌜ (r ≡ nextMark (now (model .entry)) s g (now (marks .entry)) p z q) × (r ≤ 1) ⌝ }
+{
+    if f(model, starts, marks, s, g, 1, p, z, q) > 0 {
+        1
+    } else {
+        0
+    }
+}
+
+// One round at the entries of row (p, z), where all rows before it are done.
+fn round_row(
+    model: &[u8],
+    starts: &[usize; 129],
+    marks: &[u32; 1024],
+    next: &mut [u32; 1024],
+    s: usize,
+    g: usize,
+    p: usize,
+    z: usize,
+)
+    requires { ⌜ Sized (now model) s g × Starts (now model) g (s * g) (now starts) × AtMost 1 (now marks) × (p < s) × (z < g) × RoundTo (now model) s g (now marks) ((p * g + z) * s) (now next) ⌝ }
+    ensures { λ _. ⌜ RoundTo (now (model .entry)) s g (now (marks .entry)) ((p * g + z + 1) * s) (now (next .exit)) ⌝ }
+{
+    let at = row_number(p, g, z) * s;
+    let mut q = 0;
+    while q < s {
+        next[at + q] = next_mark(model, starts, marks, s, g, p, z, q);
+        q += 1;
+    }
+}
+
+// One round: every mark by f of the marks before.
+fn round(
+    model: &[u8],
+    starts: &[usize; 129],
+    marks: &[u32; 1024],
+    s: usize,
+    g: usize,
+) -> [u32; 1024]
+    requires { ⌜ Sized (now model) s g × Starts (now model) g (s * g) (now starts) × AtMost 1 (now marks) ⌝ }
+    ensures { λ r. ⌜ RoundTo (now (model .entry)) s g (now (marks .entry)) (s * g * s) r ⌝ }
+{
+    let rows = s * g;
+    let mut next = [0u32; 1024];
+    let mut k = 0;
+    while k < rows {
+        round_row(model, starts, marks, &mut next, s, g, k / g, k % g);
+        k += 1;
+    }
+    next
+}
+
+// Whether the first n marks are the same.
+fn same(a: &[u32; 1024], b: &[u32; 1024], n: usize) -> bool
+    requires { ⌜ n ≤ 1024 ⌝ }
+    ensures { λ r. ⌜ (r ≡ true → (e : ℕ) → e < n → getD (now (a .entry)) e 0 ≡ getD (now (b .entry)) e 0) ⌝ }
+{
+    let mut e = 0;
+    while e < n {
+        if a[e] != b[e] {
+            return false;
+        }
+        e += 1;
+    }
+    true
+}
+
+// The live marks: as many rounds as there are entries, or fewer once a round changes nothing.
+pub fn marks(model: &[u8], starts: &[usize; 129], s: usize, g: usize) -> [u32; 1024]
+    requires { ⌜ Sized (now model) s g × Starts (now model) g (s * g) (now starts) ⌝ }
+    ensures { λ r. ⌜ AtMost 1 r × Same s g (entries s g r) (alive (rulesOf (now (model .entry))) s g) ⌝ }
+{
+    let n = s * g * s;
+    let mut marks = [0u32; 1024];
+    let mut k = 0;
+    while k < n {
+        let next = round(model, starts, &marks, s, g);
+        if same(&marks, &next, n) {
+            return marks;
+        }
+        marks = next;
+        k += 1;
+    }
+    marks
+}
