@@ -3,3 +3,4 @@ pub mod Ranges
 pub mod Sums
 pub mod Vectors
 pub mod Marks
+pub mod Shown

@@ -2,3 +2,4 @@
 pub mod Held
 pub mod Products
 pub mod Rounds
+pub mod Shown

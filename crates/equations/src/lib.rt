@@ -1,7 +1,28 @@
-// The equations of an accepted model, each over its row's records only. These functions serve the checks: each asks what an accepted
-// file gives, and the calls for hosts, which ask nothing, stand above them.
+// The equations of an accepted model, each over its row's records only, and the live marks of any bytes. The functions of the modules
+// serve the checks: each asks what an accepted model gives.
+
+use model::sizes::states;
+use model::sizes::symbols;
+use outcome::Outcome;
 
 pub mod chances; // chances.rt: f at one entry
-pub mod live; // live.rt: the live marks
+pub mod live; // live.rt: the live marks of an accepted model
 pub mod rows; // rows.rt: where each row's records start
 pub mod steps; // steps.rt: the right side of the mean steps' inequality
+
+ghost use Rattle.equations.specs.Shown.{LiveMarks};
+
+// The live marks of any bytes, by entry number: 1 where an entry is live, and 0 everywhere where the model is refused. What stands from
+// the last entry on is free, and at most 1.
+pub fn live_marks(model: &[u8]) -> [u32; 1024]
+    ensures { λ r. ⌜ LiveMarks (now (model .entry)) r ⌝ }
+{
+    let found = model::check(model);
+    if let Outcome::Refused { .. } = found {
+        return [0u32; 1024];
+    }
+    let s = states(model);
+    let g = symbols(model);
+    let starts = rows::starts(model, s, g);
+    live::marks(model, &starts, s, g)
+}

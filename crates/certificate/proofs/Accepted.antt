@@ -1,0 +1,387 @@
+-- The verdict accepts exactly a model file with a delivery file for it, a refusal is that of the first test that fails, and its shortfall
+-- is never above zero.
+use Prim.Native.Nat.{ℕ, zero, suc, _+_, _-_, _*_, _^_, _≤_, _<_}
+use native.Mathlib.Omega.{arith}
+use mathlib.Core.Bool.{Bool, true, false, cond, _&&_, _||_, true≢false, and-eq-true-iff}
+use mathlib.Core.List.{List, [], _∷_, _++_}
+use mathlib.Core.Logic.{_↔_, Iff·trans, _⊎_, inl, inr}
+use mathlib.Core.Path.{_≡_, refl, sym}
+use lib.Dec.{eqb, leb, ltb}
+use lib.IntN.{ℤ, pos, negsuc, subℕ, pos-ne-negsuc}
+use borrow.Author.Tests.{ltb-true, ltb-false, leb-true, leb-false, eqb-true, not-false, le-ltb, lt-leb, eq-eqb}
+use Rattle.outcome.specs.declared.Reason.{Reason}
+use Rattle.outcome.specs.declared.Outcome.the-variants.{Accepted, Refused}
+use Rattle.outcome.specs.Tests.{Test, plain, refusal, each, Passed, FirstFailure}
+use Rattle.outcome.proofs.Exactly.{not-lt-exactly, le-exactly, eq-exactly, both, not-exactly, and-fails, or-fails}
+use Rattle.outcome.proofs.Tests.{accepted-exactly, refused-exactly, first-failure, first-stands, passed-one, passed-append, passed-each}
+use Rattle.ppda.specs.Sums.{In}
+use Rattle.ppda.specs.Equations.{f}
+use Rattle.ppda.specs.Live.{alive}
+use Rattle.ppda.specs.Bounds as Bounds
+use Rattle.ppda.proofs.Lists.{in-append-cases, in-append-right}
+use Rattle.model.specs.Records.{recordsOf, statesOf, symbolsOf}
+use Rattle.model.specs.Rules.{rulesOf}
+use Rattle.model.specs.Verdict as model
+use Rattle.model.specs.Verdict.{rowTests, modelTests, modelVerdict}
+use Rattle.model.proofs.Accepted.{model-accepted}
+use Rattle.delivery.specs.declared.shape.Block.{Block}
+use Rattle.delivery.specs.declared.shape.Block.the-variants.{Uppers, Lowers, Means}
+use Rattle.delivery.specs.declared.shape.Shape.{Shape}
+use Rattle.delivery.specs.declared.shape.Shaped.{Shaped}
+use Rattle.delivery.specs.declared.shape.Shaped.the-variants.{Of, Unknown}
+use Rattle.delivery.specs.Records.{byteOf, valueOf, kindOf, leastOf, mostOf}
+use Rattle.delivery.specs.Shapes.{entriesIn, hasLowers, hasMeans, meansFrom, shapeOf}
+use Rattle.delivery.specs.Numbers.{entryAt, rowAt, uppersOf, lowersOf, meansOf}
+use Rattle.delivery.specs.Layout.{eachEntry, eachRow, onlyIf, isDue, inRange, recordTests, upperRecords, lowerRecords, meanRecords, layoutTests}
+use Rattle.inequalities.specs.Inequalities.{deadTest, upperTest, belowTest, lowerTest, meanTest, deadTests, upperTests, belowTests, lowerTests, meanTests}
+use Rattle.certificate.specs.Verdict.{numberTests, shapedTests, deliveryTests, verdict}
+use Rattle.certificate.specs.Accepted.{RecordDue, AtEntries, AtRows, UppersRight, LowersRight, MeansRight, DeliveryFile, Filed}
+
+-- ---- lists of tests
+
+-- No test of the list fails exactly where A holds.
+record Says (ts : List Test) (A : Type 0) : Type 0 where
+  exactly : Passed ts ↔ A
+
+says-append : {A B : Type 0} {xs ys : List Test} → Says xs A → Says ys B → Says (xs ++ ys) (A × B)
+says-append {xs = xs} {ys = ys} f g =
+    record {
+      exactly = (
+        λ h. let p = passed-append xs ys .0 h in (f .exactly .0 (p .0), g .exactly .0 (p .1)),
+        λ h. passed-append xs ys .1 (f .exactly .1 (h .0), g .exactly .1 (h .1)),
+      );
+    }
+
+says-only : {A : Type 0} {ts : List Test} (t : Bool) → Says ts A → Says (onlyIf t ts) (t ≡ true → A)
+says-only true f = record { exactly = (λ h e. f .exactly .0 h, λ h. f .exactly .1 (h refl)) }
+says-only false f = record { exactly = (λ h e. absurd (true≢false (sym e)), λ h. tt) }
+
+says-entries : {s g : ℕ} {h : ℕ → ℕ → ℕ → List Test} {P : ℕ → ℕ → ℕ → Type 0} → ((p z q : ℕ) → Says (h p z q) (P p z q))
+    → Says (eachEntry s g h) (AtEntries s g P)
+unfolding eachEntry
+says-entries {s} {g} {h} e =
+    record {
+      exactly = (
+        λ a p z q hp hz hq. e p z q .exactly .0 (passed-each s (h p z) .0 (passed-each g _ .0 (passed-each s _ .0 a p hp) z hz) q hq),
+        λ a. passed-each s _ .1 (λ p hp.
+            passed-each g _ .1 (λ z hz. passed-each s (h p z) .1 (λ q hq. e p z q .exactly .1 (a p z q hp hz hq)))),
+      );
+    }
+
+says-rows : {s g : ℕ} {h : ℕ → ℕ → List Test} {P : ℕ → ℕ → Type 0} → ((p z : ℕ) → Says (h p z) (P p z))
+    → Says (eachRow s g h) (AtRows s g P)
+unfolding eachRow
+says-rows {s} {g} {h} e =
+    record {
+      exactly = (
+        λ a p z hp hz. e p z .exactly .0 (passed-each g (h p) .0 (passed-each s _ .0 a p hp) z hz),
+        λ a. passed-each s _ .1 (λ p hp. passed-each g (h p) .1 (λ z hz. e p z .exactly .1 (a p z hp hz))),
+      );
+    }
+
+-- One test.
+says-one : {A : Type 0} {t : Test} → (t .fails ≡ false) ↔ A → Says (t ∷ []) A
+says-one {t = t} f = record { exactly = Iff·trans (passed-one t) f }
+
+-- ---- each test
+
+due-exactly : (d : List ℕ) (i : ℕ) (k : Block) (p z q : ℕ) → (isDue d i k p z q ≡ true)
+    ↔ ((byteOf d i 0 ≡ kindOf k) × ((byteOf d i 1 ≡ p) × ((byteOf d i 2 ≡ z) × (byteOf d i 3 ≡ q))))
+unfolding isDue
+due-exactly d i k p z q =
+    both _ _ (eq-exactly (byteOf d i 0) (kindOf k))
+    (both _ _ (eq-exactly (byteOf d i 1) p) (both _ _ (eq-exactly (byteOf d i 2) z) (eq-exactly (byteOf d i 3) q)))
+
+range-exactly : (d : List ℕ) (i : ℕ) (k : Block) → (inRange d i k ≡ true) ↔ ((leastOf k ≤ valueOf d i) × (valueOf d i ≤ mostOf k))
+unfolding inRange
+range-exactly d i k = both _ _ (le-exactly (leastOf k) (valueOf d i)) (le-exactly (valueOf d i) (mostOf k))
+
+says-due : (d : List ℕ) (i : ℕ) (k : Block) (p z q : ℕ) → Says (recordTests d i k p z q) (RecordDue d i k p z q)
+unfolding recordTests
+says-due d i k p z q =
+    record {
+      exactly = (
+        λ h. let b = due-exactly d i k p z q .0 (not-false _ (h .0)) in
+            let v = range-exactly d i k .0 (not-false _ (h .1 .0)) in
+            record { kind = b .0; state = b .1 .0; symbol = b .1 .1 .0; exit = b .1 .1 .1; least = v .0; most = v .1 },
+        λ r. (
+          not-exactly _ .1 (due-exactly d i k p z q .1 (r .kind, (r .state, (r .symbol, r .exit)))),
+          (not-exactly _ .1 (range-exactly d i k .1 (r .least, r .most)), tt),
+        ),
+      );
+    }
+
+says-dead : (a v i : ℕ) → Says (deadTest a v i ∷ []) (a ≡ 0 → v ≡ 0)
+unfolding deadTest
+says-dead a v i =
+    says-one (
+      λ h e. eqb-true v 0 (not-false _ (and-fails _ _ .0 h (eq-eqb a 0 e))),
+      λ h. and-fails _ _ .1 (λ e. not-exactly _ .1 (eq-eqb v 0 (h (eqb-true a 0 e)))),
+    )
+
+-- What 24 asks of an entry with the live mark a, the upper u and f(u) = y.
+abbrev UpperRight : Bool → ℕ → ℕ → ℕ → Type 0
+UpperRight lowers a u y = (y ≤ u * 2 ^ 36) × (lowers ≡ true → a ≡ 1 → y < u * 2 ^ 36)
+
+says-upper : (lowers : Bool) (a u y i : ℕ) → Says (upperTest lowers a u y i ∷ []) (UpperRight lowers a u y)
+unfolding upperTest
+says-upper lowers a u y i =
+    says-one (
+      λ h. let p = or-fails _ _ .0 h in
+          (ltb-false _ _ (p .0), λ e live. leb-false _ _ (and-fails _ _ .0 (and-fails _ _ .0 (p .1) e) (eq-eqb a 1 live))),
+      λ h. or-fails _ _ .1
+          (le-ltb _ _ (h .0), and-fails _ _ .1 (λ e. and-fails _ _ .1 (λ live. lt-leb _ _ (h .1 e (eqb-true a 1 live))))),
+    )
+
+says-below : (l u i : ℕ) → Says (belowTest l u i ∷ []) (l ≤ u)
+unfolding belowTest
+says-below l u i = says-one (not-lt-exactly u l)
+
+says-lower : (l y i : ℕ) → Says (lowerTest l y i ∷ []) (l * 2 ^ 36 ≤ y)
+unfolding lowerTest
+says-lower l y i = says-one (not-lt-exactly y (l * 2 ^ 36))
+
+says-mean : (r y i : ℕ) → Says (meanTest r y i ∷ []) (y ≤ r * 2 ^ 36)
+unfolding meanTest
+says-mean r y i = says-one (not-lt-exactly (r * 2 ^ 36) y)
+
+-- ---- the tests of a delivery
+
+-- What 24 asks of every entry, by whether lowers stand.
+abbrev UppersHold : List ℕ → ℕ → ℕ → Bool → List ℕ → Type 0
+UppersHold b s g lowers d =
+    AtEntries s g (λ p z q.
+    UpperRight lowers (alive (rulesOf b) s g p z q) (uppersOf s g d p z q) (f (rulesOf b) s (2 ^ 20) (uppersOf s g d) p z q))
+
+module _ (b : List ℕ) (s g : ℕ) (h : Shape) (d : List ℕ) where
+  says-layout : Says (layoutTests s g h d)
+      (AtEntries s g (λ p z q. RecordDue d (entryAt s g p z q) Uppers p z q)
+      × ((hasLowers h ≡ true → AtEntries s g (λ p z q. RecordDue d (entriesIn s g + entryAt s g p z q) Lowers p z q))
+      × (hasMeans h ≡ true → AtRows s g (λ p z. RecordDue d (meansFrom s g h + rowAt g p z) Means p z 0))))
+  unfolding layoutTests upperRecords lowerRecords meanRecords
+  says-layout =
+      says-append (says-entries (λ p z q. says-due d _ Uppers p z q))
+      (says-append (says-only (hasLowers h) (says-entries (λ p z q. says-due d _ Lowers p z q)))
+      (says-only (hasMeans h) (says-rows (λ p z. says-due d _ Means p z 0))))
+
+  says-numbers : Says (numberTests b s g h d)
+      (AtEntries s g (λ p z q. alive (rulesOf b) s g p z q ≡ 0 → uppersOf s g d p z q ≡ 0)
+      × ((hasLowers h ≡ true → AtEntries s g (λ p z q. alive (rulesOf b) s g p z q ≡ 0 → lowersOf s g d p z q ≡ 0))
+      × (UppersHold b s g (hasLowers h) d
+      × ((hasLowers h ≡ true → AtEntries s g (λ p z q. lowersOf s g d p z q ≤ uppersOf s g d p z q))
+      × ((hasLowers h ≡ true
+      → AtEntries s g (λ p z q. lowersOf s g d p z q * 2 ^ 36 ≤ f (rulesOf b) s (2 ^ 20) (lowersOf s g d) p z q))
+      × (hasMeans h ≡ true → Bounds.Means (rulesOf b) s g (uppersOf s g d) (meansOf s g h d)))))))
+  unfolding numberTests deadTests upperTests belowTests lowerTests meanTests
+  says-numbers =
+      says-append (says-entries (λ p z q. says-dead _ _ _))
+      (says-append (says-only (hasLowers h) (says-entries (λ p z q. says-dead _ _ _)))
+      (says-append (says-entries (λ p z q. says-upper (hasLowers h) _ _ _ _))
+      (says-append (says-only (hasLowers h) (says-entries (λ p z q. says-below _ _ _)))
+      (says-append (says-only (hasLowers h) (says-entries (λ p z q. says-lower _ _ _)))
+      (says-only (hasMeans h) (says-rows (λ p z. says-mean _ _ _)))))))
+
+-- Every block of a shape is right.
+record BlocksRight (b : List ℕ) (s g : ℕ) (h : Shape) (d : List ℕ) : Type 0 where
+  uppers : UppersRight b s g d
+  lowers : hasLowers h ≡ true → LowersRight b s g d
+  means : hasMeans h ≡ true → MeansRight b s g h d
+
+module _ (b : List ℕ) (s g : ℕ) (h : Shape) (d : List ℕ) where
+  blocks-of-passed : Passed (layoutTests s g h d ++ numberTests b s g h d) → BlocksRight b s g h d
+  blocks-of-passed passed =
+      let (layout, numbers) = says-append (says-layout b s g h d) (says-numbers b s g h d) .exactly .0 passed in
+      let (uppers, (lowers, means)) = layout in
+      let (dead, (dead-lowers, (hold, (below, (lower, mean))))) = numbers in
+      record {
+        uppers = record { due = uppers; dead = dead; upper = λ p z q hp hz hq. hold p z q hp hz hq .0 };
+        lowers = λ e. record {
+          due = lowers e;
+          dead = dead-lowers e;
+          strict = λ p z q hp hz hq. hold p z q hp hz hq .1 e;
+          below = below e;
+          lower = lower e;
+        };
+        means = λ e. record { due = means e; mean = mean e };
+      }
+
+  passed-of-blocks : BlocksRight b s g h d → Passed (layoutTests s g h d ++ numberTests b s g h d)
+  passed-of-blocks r =
+      says-append (says-layout b s g h d) (says-numbers b s g h d) .exactly .1 (
+        (r .uppers .due, (λ e. r .lowers e .due, λ e. r .means e .due)),
+        (
+          r .uppers .dead,
+          (
+            λ e. r .lowers e .dead,
+            (
+              λ p z q hp hz hq. (r .uppers .upper p z q hp hz hq, λ e. r .lowers e .strict p z q hp hz hq),
+              (λ e. r .lowers e .below, (λ e. r .lowers e .lower, λ e. r .means e .mean)),
+            ),
+          ),
+        ),
+      )
+
+file-of-passed : (b d : List ℕ) → Passed (deliveryTests b d) → (h : Shape) × DeliveryFile b d h
+unfolding deliveryTests shapedTests
+file-of-passed b d = go (shapeOf (statesOf b) (symbolsOf b) d) refl
+  where
+    go : (t : Shaped) → shapeOf (statesOf b) (symbolsOf b) d ≡ t → Passed (shapedTests b (statesOf b) (symbolsOf b) t d)
+        → (h : Shape) × DeliveryFile b d h
+    go (Of h) e passed =
+        let r = blocks-of-passed b (statesOf b) (symbolsOf b) h d passed in
+        (h, record { shape = e; uppers = r .uppers; lowers = r .lowers; means = r .means })
+    go Unknown e passed = absurd (true≢false (passed .0))
+
+passed-of-file : (b d : List ℕ) (h : Shape) → DeliveryFile b d h → Passed (deliveryTests b d)
+unfolding deliveryTests shapedTests
+passed-of-file b d h r =
+    rw (r .shape)
+    (passed-of-blocks b (statesOf b) (symbolsOf b) h d (record { uppers = r .uppers; lowers = r .lowers; means = r .means }))
+
+-- ---- the verdict
+
+pub delivery-accepted : (b d : List ℕ) → (verdict b d ≡ Accepted) ↔ Filed b d
+unfolding verdict modelVerdict
+delivery-accepted b d = (
+  λ e. let passed = passed-append (modelTests b) (deliveryTests b d) .0 (accepted-exactly (modelTests b ++ deliveryTests b d) .0 e) in
+      let (h, r) = file-of-passed b d (passed .1) in
+      record { model = model-accepted b .0 (accepted-exactly (modelTests b) .1 (passed .0)); shaped = h; delivery = r },
+  λ r. accepted-exactly (modelTests b ++ deliveryTests b d) .1
+      (passed-append (modelTests b) (deliveryTests b d) .1
+      (accepted-exactly (modelTests b) .0 (model-accepted b .1 (r .model)), passed-of-file b d (r .shaped) (r .delivery))),
+)
+
+-- A refusal is that of the first test that fails.
+pub delivery-refused : (b d : List ℕ) (r : Reason) (i : ℕ) (k : ℤ) → verdict b d ≡ Refused r i k
+    → (t : Test) × (FirstFailure (modelTests b ++ deliveryTests b d) t × (refusal t ≡ Refused r i k))
+unfolding verdict
+delivery-refused b d = first-failure (modelTests b ++ deliveryTests b d)
+
+pub delivery-refuses : (b d : List ℕ) (t : Test) → FirstFailure (modelTests b ++ deliveryTests b d) t → verdict b d ≡ refusal t
+unfolding verdict
+delivery-refuses b d = refused-exactly (modelTests b ++ deliveryTests b d)
+
+-- A refused model decides.
+pub model-first : (b d : List ℕ) → (modelVerdict b ≡ Accepted → ⊥) → verdict b d ≡ modelVerdict b
+unfolding verdict modelVerdict
+model-first b d = first-stands (modelTests b) (deliveryTests b d)
+
+-- An accepted delivery has the shape of its file, and no other.
+pub shaped-as : (b d : List ℕ) (x : Filed b d) (h : Shape) → shapeOf (statesOf b) (symbolsOf b) d ≡ Of h → x .shaped ≡ h
+shaped-as b d x h e = let q = x .delivery .shape in cc
+
+pub same-shape : (b d : List ℕ) (x y : Filed b d) → x .shaped ≡ y .shaped
+same-shape b d x y = shaped-as b d x (y .shaped) (y .delivery .shape)
+
+-- ---- shortfalls
+
+-- Where a test of the list fails, its shortfall is not above zero.
+record Short (ts : List Test) : Type 0 where
+  each-short : (t : Test) → In t ts → t .fails ≡ true → (n : ℕ) → t .shortfall ≡ pos (suc n) → ⊥
+
+short-none : Short []
+short-none = record { each-short = λ t i. absurd i }
+
+short-cons : {t : Test} {ts : List Test} → (t .fails ≡ true → (n : ℕ) → t .shortfall ≡ pos (suc n) → ⊥) → Short ts → Short (t ∷ ts)
+short-cons {t} {ts} h r = record { each-short = go }
+  where
+    go : (u : Test) → In u (t ∷ ts) → u .fails ≡ true → (n : ℕ) → u .shortfall ≡ pos (suc n) → ⊥
+    go u (inl e) = rw e h
+    go u (inr i) = r .each-short u i
+
+short-append : {xs ys : List Test} → Short xs → Short ys → Short (xs ++ ys)
+short-append {xs} {ys} f g = record { each-short = λ t i. go t (in-append-cases t xs ys i) }
+  where
+    go : (t : Test) → In t xs ⊎ In t ys → t .fails ≡ true → (n : ℕ) → t .shortfall ≡ pos (suc n) → ⊥
+    go t (inl i) = f .each-short t i
+    go t (inr i) = g .each-short t i
+
+short-only : {ts : List Test} (t : Bool) → Short ts → Short (onlyIf t ts)
+short-only true r = r
+short-only false r = short-none
+
+short-each : (n : ℕ) {h : ℕ → List Test} → ((i : ℕ) → Short (h i)) → Short (each n h)
+unfolding each
+short-each zero r = short-none
+short-each (suc n) r = short-append (short-each n r) (r n)
+
+short-entries : (s g : ℕ) {h : ℕ → ℕ → ℕ → List Test} → ((p z q : ℕ) → Short (h p z q)) → Short (eachEntry s g h)
+unfolding eachEntry
+short-entries s g r = short-each s (λ p. short-each g (λ z. short-each s (r p z)))
+
+short-rows : (s g : ℕ) {h : ℕ → ℕ → List Test} → ((p z : ℕ) → Short (h p z)) → Short (eachRow s g h)
+unfolding eachRow
+short-rows s g r = short-each s (λ p. short-each g (r p))
+
+-- A test without an inequality has the shortfall 0.
+zero-not-above : (n : ℕ) → pos 0 ≡ pos (suc n) → ⊥
+zero-not-above n e = let z : 0 ≡ suc n = cc in omega arith
+
+short-plain : {t : Bool} {r : Reason} {i : ℕ} {ts : List Test} → Short ts → Short (plain t r i ∷ ts)
+short-plain r = short-cons (λ e. zero-not-above) r
+
+-- A difference is above zero only where the first number is greater.
+difference-not-above : (a b : ℕ) → a ≤ b → (n : ℕ) → subℕ a b ≡ pos (suc n) → ⊥
+difference-not-above a b h n = go (ltb a b)
+  where
+    go : (t : Bool) → cond t (negsuc (b - suc a)) (pos (a - b)) ≡ pos (suc n) → ⊥
+    go true q = pos-ne-negsuc _ _ (sym q)
+    go false q = let z : a - b ≡ suc n = cc in omega arith
+
+short-upper : (lowers : Bool) (a u y i : ℕ) → Short (upperTest lowers a u y i ∷ [])
+unfolding upperTest
+short-upper lowers a u y i = short-cons (λ e. difference-not-above (u * 2 ^ 36) y (go (ltb (u * 2 ^ 36) y) refl e)) short-none
+  where
+    go : (t : Bool) → ltb (u * 2 ^ 36) y ≡ t → (t || (lowers && (eqb a 1 && leb (u * 2 ^ 36) y))) ≡ true → u * 2 ^ 36 ≤ y
+    go true q e = omega (arith, ltb-true (u * 2 ^ 36) y q)
+    go false q e = leb-true (u * 2 ^ 36) y (and-eq-true-iff (eqb a 1) _ .0 (and-eq-true-iff lowers _ .0 e .1) .1)
+
+short-lower : (l y i : ℕ) → Short (lowerTest l y i ∷ [])
+unfolding lowerTest
+short-lower l y i = short-cons (λ e. difference-not-above y (l * 2 ^ 36) (omega (arith, ltb-true y (l * 2 ^ 36) e))) short-none
+
+short-mean : (r y i : ℕ) → Short (meanTest r y i ∷ [])
+unfolding meanTest
+short-mean r y i = short-cons (λ e. difference-not-above (r * 2 ^ 36) y (omega (arith, ltb-true (r * 2 ^ 36) y e))) short-none
+
+short-record : (d : List ℕ) (i : ℕ) (k : Block) (p z q : ℕ) → Short (recordTests d i k p z q)
+unfolding recordTests
+short-record d i k p z q = short-plain (short-plain short-none)
+
+short-dead : (a v i : ℕ) → Short (deadTest a v i ∷ [])
+unfolding deadTest
+short-dead a v i = short-plain short-none
+
+short-below : (l u i : ℕ) → Short (belowTest l u i ∷ [])
+unfolding belowTest
+short-below l u i = short-plain short-none
+
+short-shaped : (b : List ℕ) (s g : ℕ) (t : Shaped) (d : List ℕ) → Short (shapedTests b s g t d)
+unfolding shapedTests layoutTests numberTests upperRecords lowerRecords meanRecords deadTests upperTests belowTests lowerTests meanTests
+short-shaped b s g Unknown d = short-plain short-none
+short-shaped b s g (Of h) d =
+    short-append
+    (short-append (short-entries s g (λ p z q. short-record d _ Uppers p z q))
+    (short-append (short-only (hasLowers h) (short-entries s g (λ p z q. short-record d _ Lowers p z q)))
+    (short-only (hasMeans h) (short-rows s g (λ p z. short-record d _ Means p z 0)))))
+    (short-append (short-entries s g (λ p z q. short-dead _ _ _))
+    (short-append (short-only (hasLowers h) (short-entries s g (λ p z q. short-dead _ _ _)))
+    (short-append (short-entries s g (λ p z q. short-upper (hasLowers h) _ _ _ _))
+    (short-append (short-only (hasLowers h) (short-entries s g (λ p z q. short-below _ _ _)))
+    (short-append (short-only (hasLowers h) (short-entries s g (λ p z q. short-lower _ _ _)))
+    (short-only (hasMeans h) (short-rows s g (λ p z. short-mean _ _ _))))))))
+
+short-model : (b : List ℕ) → Short (modelTests b)
+unfolding modelTests model.recordTests rowTests
+short-model b =
+    short-plain
+    (short-append (short-each (recordsOf b) (λ i. short-plain (short-plain (short-plain (short-plain short-none)))))
+    (short-each (statesOf b * symbolsOf b) (λ k. short-plain short-none)))
+
+-- The shortfall of a refusal is never above zero.
+pub shortfall-not-positive : (b d : List ℕ) (r : Reason) (i : ℕ) (k : ℤ) → verdict b d ≡ Refused r i k → (n : ℕ) → k ≡ pos (suc n) → ⊥
+unfolding deliveryTests
+shortfall-not-positive b d r i k e n q =
+    let (t, (found, same)) = delivery-refused b d r i k e in
+    let short = short-append (short-model b) (short-shaped b (statesOf b) (symbolsOf b) (shapeOf (statesOf b) (symbolsOf b) d) d) in
+    short .each-short t (rw (found .split) (in-append-right t (found .before) (t ∷ found .after) (inl refl))) (found .fails) n (cc)

@@ -1,0 +1,78 @@
+-- Every starred edge of document 01 holds.
+use Prim.Native.Nat.{ℕ, _<_}
+use native.Mathlib.Omega.{arith}
+use mathlib.Core.List.{List}
+use lib.Dec.{lit<}
+use mathlib.Core.Path.{_≡_, refl}
+use Rattle.outcome.specs.declared.Outcome.the-variants.{Accepted}
+use Rattle.outcome.specs.Tests.{first, each}
+use Rattle.bytes.specs.Words.{wordAt}
+use Rattle.ppda.specs.Sums.{sign, sum, sumTo, leastTo}
+use Rattle.ppda.specs.Rules.{fits, overRow}
+use Rattle.ppda.specs.Equations.{f, meanSide}
+use Rattle.ppda.specs.Live.{mark, alive, Live}
+use Rattle.ppda.specs.Margin.{share, shareAt, margin}
+use Rattle.model.specs.Records.{recordsOf, field, weight, greatestTo, statesOf, symbolsOf}
+use Rattle.model.specs.Rules.{ruleOf, listTo, rulesOf, rowOf, rowSum}
+use Rattle.model.specs.Verdict.{wholeRecords, rangeAt, unusedAt, weightAt, ascends, recordTests, rowTests, modelTests, modelVerdict}
+use Rattle.model.specs.W.{wFile}
+use Rattle.delivery.specs.Records.{byteOf, valueOf}
+use Rattle.delivery.specs.Shapes.{meansFrom, recordsIn, longAs, lowersOrMeans, shapeOf}
+use Rattle.delivery.specs.Numbers.{uppersOf, lowersOf, meansOf}
+use Rattle.delivery.specs.Layout as layout
+use Rattle.certificate.specs.Verdict as verdict
+use Rattle.delivery.specs.Layout.{eachEntry, eachRow, isDue, inRange, upperRecords, lowerRecords, meanRecords, layoutTests}
+use Rattle.inequalities.specs.Inequalities.{deadTest, upperTest, belowTest, lowerTest, meanTest, deadTests, upperTests, belowTests, lowerTests, meanTests}
+use Rattle.certificate.specs.Verdict.{numberTests, shapedTests, deliveryTests}
+use Rattle.certificate.specs.Margin.{marginOf}
+use Rattle.certificate.specs.Edges.{zToZ, AllHold, edges}
+use Rattle.ppda.proofs.Live.{live-by-rounds}
+use Rattle.model.proofs.Accepted.{model-accepted, is-model}
+
+-- An entry of an accepted model is dead where its mark is 0.
+dead : (b : List ℕ) (p z q : ℕ) → modelVerdict b ≡ Accepted → p < statesOf b → z < symbolsOf b → q < statesOf b
+    → alive (rulesOf b) (statesOf b) (symbolsOf b) p z q ≡ 0 → Live (rulesOf b) p z q → ⊥
+dead b p z q a hp hz hq e l =
+    let m = is-model b (model-accepted b .0 a) in
+    let h = live-by-rounds (rulesOf b) (statesOf b) (symbolsOf b) m p z q hp hz hq .1 l in omega arith
+
+-- The whole table, by computation.
+pub edges-hold : AllHold edges
+unfolding first each wordAt sign sum sumTo leastTo fits overRow f meanSide mark alive share shareAt margin recordsOf field weight greatestTo statesOf symbolsOf ruleOf listTo rulesOf rowOf rowSum wholeRecords rangeAt unusedAt weightAt ascends recordTests rowTests modelTests modelVerdict byteOf valueOf meansFrom recordsIn longAs lowersOrMeans shapeOf uppersOf lowersOf meansOf eachEntry eachRow isDue inRange layout.recordTests deadTest upperTest belowTest lowerTest meanTest upperRecords lowerRecords meanRecords deadTests upperTests belowTests lowerTests meanTests layoutTests numberTests shapedTests deliveryTests verdict.verdict marginOf
+edges-hold = (
+  refl,
+  (
+    refl,
+    (
+      dead wFile 1 0 0 refl (lit< tt) (lit< tt) (lit< tt) refl,
+      (
+        refl,
+        (
+          refl,
+          (
+            refl,
+            (
+              refl,
+              (
+                refl,
+                (
+                  refl,
+                  (
+                    refl,
+                    (
+                      refl,
+                      (
+                        refl,
+                        (dead zToZ 0 0 0 refl (lit< tt) (lit< tt) (lit< tt) refl, tt),
+                      ),
+                    ),
+                  ),
+                ),
+              ),
+            ),
+          ),
+        ),
+      ),
+    ),
+  ),
+)

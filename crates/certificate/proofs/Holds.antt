@@ -1,0 +1,87 @@
+-- Mission point 3 for files: what an accepted delivery says is true of the runs of its model. An accepted file makes the claims that the
+-- theorems of crate ppda take.
+use Prim.Native.Nat.{ℕ, _+_, _-_, _*_, _^_, _≤_, _<_}
+use mathlib.Core.Bool.{true}
+use mathlib.Core.List.{List}
+use mathlib.Core.Path.{_≡_, ap, _∙_}
+use Rattle.outcome.specs.declared.Outcome.the-variants.{Accepted}
+use Rattle.ppda.specs.Rules.{IsModel}
+use Rattle.ppda.specs.Chances.{chance}
+use Rattle.ppda.specs.Bounds as Bounds
+use Rattle.ppda.specs.Bounds.{UpperHolds, LowerHolds, MeanHolds}
+use Rattle.ppda.proofs.Upper.{upper-holds}
+use Rattle.ppda.proofs.Lower.{lower-holds, lower-as-shown}
+use Rattle.ppda.proofs.Mean.{mean-holds}
+use Rattle.model.specs.Records.{statesOf, symbolsOf}
+use Rattle.model.specs.Rules.{rulesOf}
+use Rattle.model.proofs.Accepted.{is-model}
+use Rattle.delivery.specs.declared.shape.Shape.{Shape}
+use Rattle.delivery.specs.declared.shape.Shaped.the-variants.{Of}
+use Rattle.delivery.specs.Shapes.{hasLowers, hasMeans, shapeOf}
+use Rattle.delivery.specs.Numbers.{uppersOf, lowersOf, meansOf}
+use Rattle.certificate.specs.Verdict.{verdict}
+use Rattle.certificate.specs.Accepted.{Filed}
+use Rattle.certificate.specs.Margin.{marginOf}
+use Rattle.certificate.proofs.Accepted.{delivery-accepted, shaped-as}
+
+-- ---- what accepted files claim
+
+module _ (b d : List ℕ) (x : Filed b d) where
+  pub model-of : IsModel (statesOf b) (symbolsOf b) (rulesOf b)
+  model-of = is-model b (x .model)
+
+  pub uppers-of : Bounds.Uppers (rulesOf b) (statesOf b) (symbolsOf b) (uppersOf (statesOf b) (symbolsOf b) d)
+  uppers-of = x .delivery .uppers .upper
+
+  pub lowers-of : hasLowers (x .shaped) ≡ true
+      → Bounds.Lowers (rulesOf b) (statesOf b) (symbolsOf b)
+      (uppersOf (statesOf b) (symbolsOf b) d) (lowersOf (statesOf b) (symbolsOf b) d)
+  unfolding uppersOf
+  lowers-of e p z q hp hz hq =
+      let uppers = x .delivery .uppers in
+      let lowers = x .delivery .lowers e in
+      record {
+        lower = lowers .lower p z q hp hz hq;
+        below = lowers .below p z q hp hz hq;
+        range = uppers .due p z q hp hz hq .most;
+        strict = lowers .strict p z q hp hz hq;
+        dead = uppers .dead p z q hp hz hq;
+      }
+
+  pub means-of : hasMeans (x .shaped) ≡ true
+      → Bounds.Means (rulesOf b) (statesOf b) (symbolsOf b)
+      (uppersOf (statesOf b) (symbolsOf b) d) (meansOf (statesOf b) (symbolsOf b) (x .shaped) d)
+  means-of e = x .delivery .means e .mean
+
+-- ---- what is true of the runs
+
+pub upper-of-files : (b d : List ℕ) → verdict b d ≡ Accepted
+    → UpperHolds (rulesOf b) (statesOf b) (symbolsOf b) (uppersOf (statesOf b) (symbolsOf b) d)
+upper-of-files b d a = let x = delivery-accepted b d .0 a in upper-holds _ _ _ _ (model-of b d x) (uppers-of b d x)
+
+module _ (b d : List ℕ) (h : Shape) (accepted : verdict b d ≡ Accepted) (shape : shapeOf (statesOf b) (symbolsOf b) d ≡ Of h) where
+  filed : Filed b d
+  filed = delivery-accepted b d .0 accepted
+
+  pub lower-of-files : hasLowers h ≡ true
+      → LowerHolds (rulesOf b) (statesOf b) (symbolsOf b)
+      (uppersOf (statesOf b) (symbolsOf b) d) (lowersOf (statesOf b) (symbolsOf b) d) (marginOf b d)
+  unfolding marginOf
+  lower-of-files has =
+      lower-holds _ _ _ _ _ (model-of b d filed) (uppers-of b d filed)
+      (lowers-of b d filed (ap hasLowers (shaped-as b d filed h shape) ∙ has))
+
+  -- Document 01's sentence, with m the margin shown over 2^20.
+  pub lower-as-shown-of-files : hasLowers h ≡ true → (k p z q : ℕ) → p < statesOf b → z < symbolsOf b → q < statesOf b
+      → lowersOf (statesOf b) (symbolsOf b) d p z q * 65536 ^ (2 ^ k - 1) * (2 ^ 20) ^ k
+      ≤ chance (rulesOf b) (2 ^ k - 1) p z q * 2 ^ 20 * (2 ^ 20) ^ k
+      + (2 ^ 20 - marginOf b d) ^ k * uppersOf (statesOf b) (symbolsOf b) d p z q * 65536 ^ (2 ^ k - 1)
+  unfolding marginOf
+  lower-as-shown-of-files has =
+      lower-as-shown _ _ _ _ _ (model-of b d filed) (uppers-of b d filed)
+      (lowers-of b d filed (ap hasLowers (shaped-as b d filed h shape) ∙ has))
+
+  pub mean-of-files : hasMeans h ≡ true → MeanHolds (rulesOf b) (statesOf b) (symbolsOf b) (meansOf (statesOf b) (symbolsOf b) h d)
+  mean-of-files has =
+      let e = shaped-as b d filed h shape in
+      mean-holds _ _ _ _ _ (model-of b d filed) (uppers-of b d filed) (rw e at (means-of b d filed (ap hasMeans e ∙ has)))

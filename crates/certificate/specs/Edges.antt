@@ -1,0 +1,77 @@
+-- The starred edges of document 01 ("Edges"), as one table of cases over the definitions.
+use Prim.Native.Nat.{ℕ, _/_, _%_, _^_}
+use mathlib.Core.List.{List, [], _∷_, _++_}
+use mathlib.Core.Path.{_≡_}
+use lib.IntN.{pos, negsuc}
+use Rattle.outcome.specs.declared.Outcome.{Outcome}
+use Rattle.outcome.specs.declared.Outcome.the-variants.{Accepted, Refused}
+use Rattle.outcome.specs.declared.Reason.the-variants.{UpperTooSmall, LowerAboveUpper, MeanTooSmall}
+use Rattle.ppda.specs.Live.{Live}
+use Rattle.model.specs.Rules.{rulesOf}
+use Rattle.model.specs.W.{wFile}
+use Rattle.certificate.specs.Verdict.{verdict}
+use Rattle.certificate.specs.Margin.{marginOf}
+
+-- What a case claims of a model and a delivery: the verdict, the margin, or that an entry of the model is dead.
+pub data Claim : Type 0 where
+  verdictIs : (o : Outcome) → Claim
+  marginIs : (m : ℕ) → Claim
+  isDead : (p z q : ℕ) → Claim
+
+pub record Case : Type 0 where
+  pub model : List ℕ
+  pub delivery : List ℕ
+  pub claim : Claim
+
+abbrev pub Claimed : List ℕ → List ℕ → Claim → Type 0
+Claimed b d (verdictIs o) = verdict b d ≡ o
+Claimed b d (marginIs m) = marginOf b d ≡ m
+Claimed b d (isDead p z q) = Live (rulesOf b) p z q → ⊥
+
+-- Every case of the table holds.
+abbrev pub AllHold : List Case → Type 0
+AllHold [] = Unit {0}
+AllHold (c ∷ cs) = Claimed (c .model) (c .delivery) (c .claim) × AllHold cs
+
+abbrev pub case : List ℕ → List ℕ → Claim → Case
+case b d k = record { model = b; delivery = d; claim = k }
+
+-- A number as four bytes, low byte first, and a record of a delivery: kind, p, Z, q, value.
+abbrev pub fourBytes : ℕ → List ℕ
+fourBytes n = n % 256 ∷ n / 256 % 256 ∷ n / 65536 % 256 ∷ n / 16777216 ∷ []
+
+abbrev pub line : ℕ → ℕ → ℕ → ℕ → ℕ → List ℕ
+line k p z q v = k ∷ p ∷ z ∷ q ∷ fourBytes v
+
+-- The delivery of document 01 for W, with the second upper and the first mean steps left open.
+abbrev pub wDelivery : ℕ → ℕ → List ℕ
+wDelivery u r =
+    line 85 0 0 0 655360 ++ (line 85 0 0 1 u ++ (line 85 1 0 0 0 ++ (line 85 1 0 1 1179648
+    ++ (line 76 0 0 0 524288 ++ (line 76 0 0 1 393216 ++ (line 76 1 0 0 0 ++ (line 76 1 0 1 1048576
+    ++ (line 82 0 0 0 r ++ line 82 1 0 0 256))))))))
+
+-- One state and one symbol: a record that pushes nothing and one that pushes two, with these weights.
+abbrev pub oneState : ℕ → ℕ → List ℕ
+oneState a b = 0 ∷ 0 ∷ 0 ∷ 0 ∷ 0 ∷ 0 ∷ (fourBytes a ++ (0 ∷ 0 ∷ 0 ∷ 2 ∷ 0 ∷ 0 ∷ fourBytes b))
+
+-- One state and one symbol: Z to Z.
+abbrev pub zToZ : List ℕ
+zToZ = 0 ∷ 0 ∷ 0 ∷ 1 ∷ 0 ∷ 0 ∷ fourBytes 65536
+
+-- The starred edges, in the order of document 01. `negsuc n` is −(n + 1).
+abbrev pub edges : List Case
+edges =
+    case wFile (wDelivery 524288 512) (verdictIs Accepted)
+    ∷ case wFile (wDelivery 524288 512) (marginIs 45875)
+    ∷ case wFile (wDelivery 524288 512) (isDead 1 0 0)
+    ∷ case wFile (wDelivery 466034 512) (verdictIs Accepted)
+    ∷ case wFile (wDelivery 466033 512) (verdictIs (Refused UpperTooSmall 1 (negsuc 30064771071)))
+    ∷ case wFile (wDelivery 524288 486) (verdictIs Accepted)
+    ∷ case wFile (wDelivery 524288 485) (verdictIs (Refused MeanTooSmall 8 (negsuc 2147483647)))
+    ∷ case (oneState 49152 16384) (line 85 0 0 0 1048576 ++ line 82 0 0 0 512) (verdictIs Accepted)
+    ∷ case (oneState 49152 16384) (line 85 0 0 0 1048576 ++ line 82 0 0 0 511) (verdictIs (Refused MeanTooSmall 1 (negsuc 34359738367)))
+    ∷ case (oneState 49152 16384) (line 85 0 0 0 1048576 ++ line 76 0 0 0 0) (verdictIs (Refused UpperTooSmall 0 (pos 0)))
+    ∷ case (oneState 32768 32768) (line 85 0 0 0 1048576) (verdictIs Accepted)
+    ∷ case (oneState 16384 49152) (line 85 0 0 0 524288 ++ line 76 0 0 0 1048576) (verdictIs (Refused LowerAboveUpper 1 (pos 0)))
+    ∷ case zToZ [] (isDead 0 0 0)
+    ∷ []

@@ -1,0 +1,108 @@
+// A delivery beside its model, in the field's term a certificate: the verdict 20 to 27, and the margin.
+
+use delivery::layout;
+use delivery::numbers::values;
+use delivery::shape::Shape;
+use delivery::shape::Shaped;
+use delivery::shape::entries;
+use delivery::shape::has_lowers;
+use delivery::shape::shape_of;
+use equations::live;
+use equations::rows;
+use inequalities::margin::margin_of;
+use model::sizes::states;
+use model::sizes::symbols;
+use outcome::Outcome;
+use outcome::Reason;
+use outcome::refused;
+
+mod numbers; // numbers.rt: the tests 23 to 27, in their order
+
+ghost use mathlib.Core.Path.{_≡_};
+ghost use mathlib.Core.Bool.{true};
+ghost use Rattle.outcome.specs.Tests.{first};
+ghost use Rattle.outcome.specs.declared.Outcome.the-variants.{Accepted};
+ghost use Rattle.delivery.specs.declared.shape.Shaped.the-variants.{Of};
+ghost use Rattle.delivery.specs.Shapes.{hasLowers, shapeOf};
+ghost use Rattle.equations.specs.Held.{Sized};
+ghost use Rattle.certificate.specs.Verdict.{shapedTests, verdict};
+ghost use Rattle.certificate.specs.Margin.{marginOf, shownMargin};
+ghost use Rattle.certificate.specs.Shown.{shapeIn};
+
+// The margin that is shown of a delivery, if there is one.
+pub enum Margin {
+    Shown(u64),
+    Absent,
+}
+
+// The tests 21 to 27 of a delivery whose shape is known.
+fn check_shaped(model: &[u8], delivery: &[u8], s: usize, g: usize, shape: Shape) -> Outcome
+    requires { ⌜ Sized (now model) s g × (shapeOf s g (now delivery) ≡ Of shape) ⌝ }
+    ensures { λ r. ⌜ r ≡ first (shapedTests (now (model .entry)) s g (Of shape) (now (delivery .entry))) ⌝ }
+{
+    let found = layout::check(delivery, s, g, shape);
+    if let Outcome::Refused { .. } = found {
+        return found;
+    }
+    numbers::check(model, delivery, s, g, shape)
+}
+
+// The verdict on any two byte strings: the model is tested first, then the delivery.
+pub fn check(model: &[u8], delivery: &[u8]) -> Outcome
+    ensures { λ r. ⌜ r ≡ verdict (now (model .entry)) (now (delivery .entry)) ⌝ }
+{
+    let found = model::check(model);
+    if let Outcome::Refused { .. } = found {
+        return found;
+    }
+    let s = states(model);
+    let g = symbols(model);
+    match shape_of(delivery, s, g) {
+        Shaped::Of(shape) => check_shaped(model, delivery, s, g, shape),
+        Shaped::Unknown => refused(Reason::NoShape, 0),
+    }
+}
+
+// The shape of a delivery for its model: unknown where the model is refused.
+pub fn shape(model: &[u8], delivery: &[u8]) -> Shaped
+    ensures { λ r. ⌜ r ≡ shapeIn (now (model .entry)) (now (delivery .entry)) ⌝ }
+{
+    let found = model::check(model);
+    if let Outcome::Refused { .. } = found {
+        return Shaped::Unknown;
+    }
+    shape_of(delivery, states(model), symbols(model))
+}
+
+// The margin of an accepted delivery with lowers.
+fn margin_with_lowers(model: &[u8], delivery: &[u8], s: usize, g: usize, shape: Shape) -> u64
+    requires { ⌜ Sized (now model) s g × (shapeOf s g (now delivery) ≡ Of shape) × (hasLowers shape ≡ true) × (verdict (now model) (now delivery) ≡ Accepted) ⌝ }
+    ensures { λ r. ⌜ r ≡ marginOf (now (model .entry)) (now (delivery .entry)) ⌝ }
+{
+    let starts = rows::starts(model, s, g);
+    let live = live::marks(model, &starts, s, g);
+    let uppers = values(delivery, entries(s, g));
+    margin_of(model, &starts, &live, &uppers, s, g)
+}
+
+// The margin of any two byte strings: shown where the delivery is accepted and has lowers.
+pub fn margin(model: &[u8], delivery: &[u8]) -> Margin
+    ensures { λ r. ⌜ r ≡ shownMargin (now (model .entry)) (now (delivery .entry)) ⌝ }
+{
+    let found = check(model, delivery);
+    if let Outcome::Refused { .. } = found {
+        return Margin::Absent;
+    }
+    let s = states(model);
+    let g = symbols(model);
+    match shape_of(delivery, s, g) {
+        Shaped::Of(shape) => {
+            if has_lowers(shape) {
+                Margin::Shown(margin_with_lowers(model, delivery, s, g, shape))
+            } else {
+                Margin::Absent
+            }
+        }
+        Shaped::Unknown => Margin::Absent,
+    }
+}

@@ -1,0 +1,179 @@
+// The tests 23 to 27 of a delivery whose layout is right: each over the whole file before the next.
+
+use delivery::numbers::values;
+use delivery::shape::Shape;
+use delivery::shape::entries;
+use delivery::shape::has_lowers;
+use delivery::shape::has_means;
+use delivery::shape::rows;
+use equations::live::marks;
+use equations::rows::starts;
+use inequalities::marks::check_below;
+use inequalities::marks::check_dead;
+use inequalities::means;
+use inequalities::sides;
+use inequalities::sides::Side;
+use outcome::Outcome;
+ghost use mathlib.Core.Path.{_≡_};
+ghost use mathlib.Core.Bool.{true};
+ghost use mathlib.Core.List.{_++_};
+ghost use Prim.Native.Nat.{_+_, _*_, _≤_, _<_};
+ghost use Rattle.outcome.specs.Tests.{first};
+ghost use Rattle.outcome.specs.declared.Outcome.the-variants.{Accepted};
+ghost use Rattle.ppda.specs.Equations.{entries};
+ghost use Rattle.model.specs.Rules.{rulesOf};
+ghost use Rattle.delivery.specs.declared.shape.Shaped.the-variants.{Of};
+ghost use Rattle.delivery.specs.Shapes.{entriesIn, rowsIn, hasLowers, hasMeans, shapeOf};
+ghost use Rattle.delivery.specs.Numbers.{uppersOf};
+ghost use Rattle.delivery.specs.Layout.{onlyIf, layoutTests};
+ghost use Rattle.equations.specs.Held.{Sized, Starts, AtMost};
+ghost use Rattle.inequalities.specs.Inequalities.{deadTests, upperTests, belowTests, lowerTests, meanTests};
+ghost use Rattle.certificate.specs.Verdict.{numberTests};
+ghost use Rattle.certificate.specs.Rest.{BlockRead, rowsOfBlock, restMeans, restTests, RestRead};
+
+// 23 in the lowers, which the rest of the file starts with where they stand.
+fn dead_lowers(rest: &[u8], live: &[u32; 1024], s: usize, g: usize, lowers: bool) -> Outcome
+    requires { ⌜ (s < 9) × (g < 17) × (lowers ≡ true → BlockRead (now rest) (entriesIn s g) 2097152) ⌝ }
+    ensures { λ r. ⌜ r ≡ first (onlyIf lowers (deadTests s g (entries s g (now (live .entry))) (uppersOf s g (now (rest .entry))) (entriesIn s g))) ⌝ }
+{
+    if !lowers {
+        return Outcome::Accepted;
+    }
+    let n = entries(s, g);
+    let lowers = values(rest, n);
+    check_dead(live, &lowers, n, n)
+}
+
+// 24, by whether lowers stand.
+fn check_uppers(
+    model: &[u8],
+    starts: &[usize; 129],
+    live: &[u32; 1024],
+    uppers: &[u32; 1024],
+    s: usize,
+    g: usize,
+    lowers: bool,
+) -> Outcome
+    requires { ⌜ Sized (now model) s g × Starts (now model) g (s * g) (now starts) × AtMost 2097152 (now uppers) ⌝ }
+    ensures { λ r. ⌜ r ≡ first (upperTests (rulesOf (now (model .entry))) s g lowers (entries s g (now (live .entry))) (entries s g (now (uppers .entry)))) ⌝ }
+{
+    if lowers {
+        sides::check(Side::StrictUpper, model, starts, live, uppers, s, g, 0)
+    } else {
+        sides::check(Side::Upper, model, starts, live, uppers, s, g, 0)
+    }
+}
+
+// 25 and then 26, in the lowers, which the rest of the file starts with where they stand.
+fn check_lowers(
+    model: &[u8],
+    rest: &[u8],
+    starts: &[usize; 129],
+    live: &[u32; 1024],
+    uppers: &[u32; 1024],
+    s: usize,
+    g: usize,
+    lowers: bool,
+) -> Outcome
+    requires { ⌜ Sized (now model) s g × Starts (now model) g (s * g) (now starts) × AtMost 2097152 (now uppers) × (lowers ≡ true → BlockRead (now rest) (entriesIn s g) 2097152) ⌝ }
+    ensures { λ r. ⌜ r ≡ first (onlyIf lowers (belowTests s g (uppersOf s g (now (rest .entry))) (entries s g (now (uppers .entry)))) ++ onlyIf lowers (lowerTests (rulesOf (now (model .entry))) s g (uppersOf s g (now (rest .entry))))) ⌝ }
+{
+    if !lowers {
+        return Outcome::Accepted;
+    }
+    let n = entries(s, g);
+    let lowers = values(rest, n);
+    let found = check_below(&lowers, uppers, n, n);
+    if let Outcome::Refused { .. } = found {
+        return found;
+    }
+    sides::check(Side::Lower, model, starts, live, &lowers, s, g, n)
+}
+
+// 27 for a block of mean steps, which starts at record `from` of the file.
+fn check_block_of_means(
+    model: &[u8],
+    block: &[u8],
+    starts: &[usize; 129],
+    uppers: &[u32; 1024],
+    s: usize,
+    g: usize,
+    from: usize,
+) -> Outcome
+    requires { ⌜ Sized (now model) s g × Starts (now model) g (s * g) (now starts) × AtMost 2097152 (now uppers) × BlockRead (now block) (rowsIn s g) 4194304 × (from ≤ 2048) ⌝ }
+    ensures { λ r. ⌜ r ≡ first (meanTests (rulesOf (now (model .entry))) s g (entries s g (now (uppers .entry))) (rowsOfBlock g (now (block .entry))) from) ⌝ }
+{
+    let means = values(block, rows(s, g));
+    means::check(model, starts, uppers, &means, s, g, from)
+}
+
+// 27 in the mean steps, where they stand: the rest of the file has them after the lowers, if there are any.
+fn check_means(
+    model: &[u8],
+    rest: &[u8],
+    starts: &[usize; 129],
+    uppers: &[u32; 1024],
+    s: usize,
+    g: usize,
+    shape: Shape,
+) -> Outcome
+    requires { ⌜ Sized (now model) s g × Starts (now model) g (s * g) (now starts) × AtMost 2097152 (now uppers) × RestRead s g shape (now rest) ⌝ }
+    ensures { λ r. ⌜ r ≡ first (restMeans (now (model .entry)) s g shape (entries s g (now (uppers .entry))) (now (rest .entry))) ⌝ }
+{
+    if !has_means(shape) {
+        return Outcome::Accepted;
+    }
+    let n = entries(s, g);
+    if has_lowers(shape) {
+        let block = &rest[8 * n..];
+        return check_block_of_means(model, block, starts, uppers, s, g, n + n);
+    }
+    check_block_of_means(model, rest, starts, uppers, s, g, n)
+}
+
+// Every test after that of dead uppers, by the rest of the file from record V on.
+fn check_rest(
+    model: &[u8],
+    rest: &[u8],
+    starts: &[usize; 129],
+    live: &[u32; 1024],
+    uppers: &[u32; 1024],
+    s: usize,
+    g: usize,
+    shape: Shape,
+) -> Outcome
+    requires { ⌜ Sized (now model) s g × Starts (now model) g (s * g) (now starts) × AtMost 2097152 (now uppers) × RestRead s g shape (now rest) ⌝ }
+    ensures { λ r. ⌜ r ≡ first (restTests (now (model .entry)) s g shape (entries s g (now (live .entry))) (entries s g (now (uppers .entry))) (now (rest .entry))) ⌝ }
+{
+    let lowers = has_lowers(shape);
+    let found = dead_lowers(rest, live, s, g, lowers);
+    if let Outcome::Refused { .. } = found {
+        return found;
+    }
+    let found = check_uppers(model, starts, live, uppers, s, g, lowers);
+    if let Outcome::Refused { .. } = found {
+        return found;
+    }
+    let found = check_lowers(model, rest, starts, live, uppers, s, g, lowers);
+    if let Outcome::Refused { .. } = found {
+        return found;
+    }
+    check_means(model, rest, starts, uppers, s, g, shape)
+}
+
+// The tests 23 to 27 of a delivery whose layout is right.
+pub fn check(model: &[u8], delivery: &[u8], s: usize, g: usize, shape: Shape) -> Outcome
+    requires { ⌜ Sized (now model) s g × (shapeOf s g (now delivery) ≡ Of shape) × (first (layoutTests s g shape (now delivery)) ≡ Accepted) ⌝ }
+    ensures { λ r. ⌜ r ≡ first (numberTests (now (model .entry)) s g shape (now (delivery .entry))) ⌝ }
+{
+    let n = entries(s, g);
+    let starts = starts(model, s, g);
+    let live = marks(model, &starts, s, g);
+    let uppers = values(delivery, n);
+    let rest = &delivery[8 * n..];
+    let found = check_dead(&live, &uppers, n, 0);
+    if let Outcome::Refused { .. } = found {
+        return found;
+    }
+    check_rest(model, rest, &starts, &live, &uppers, s, g, shape)
+}

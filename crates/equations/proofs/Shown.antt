@@ -1,0 +1,33 @@
+-- The live marks that are shown, by the verdict on the model.
+use Prim.Native.Nat.{ℕ}
+use mathlib.Core.List.{List}
+use mathlib.Core.Path.{_≡_, sym, _∙_}
+use lib.IntN.{ℤ}
+use lib.ListN.{replicate}
+use Rattle.outcome.specs.declared.Reason.{Reason}
+use Rattle.outcome.specs.declared.Outcome.the-variants.{Accepted, Refused}
+use Rattle.ppda.specs.Equations.{entries}
+use Rattle.ppda.specs.Live.{alive, mark}
+use Rattle.model.specs.Records.{statesOf, symbolsOf}
+use Rattle.model.specs.Rules.{rulesOf}
+use Rattle.model.specs.Verdict.{modelVerdict}
+use Rattle.model.proofs.Accepted.{model-accepted}
+use Rattle.equations.specs.Held.{Sized, AtMost, Same}
+use Rattle.equations.specs.Shown.{liveMark, LiveMarks}
+use Rattle.equations.proofs.Marks.{zeros-most, no-marks}
+
+-- An accepted model with its sizes.
+pub sized-of : {b : List ℕ} {s g : ℕ} → modelVerdict b ≡ Accepted → s ≡ statesOf b → g ≡ symbolsOf b → Sized b s g
+sized-of {b} e hs hg = record { file = model-accepted b .0 e; states = hs; symbols = hg }
+
+-- Nothing of a refused model is live.
+pub none-live : (b : List ℕ) (n : ℕ) {r : Reason} {i : ℕ} {k : ℤ} → modelVerdict b ≡ Refused r i k → LiveMarks b (replicate n 0)
+unfolding liveMark mark
+none-live b n e =
+    record { small = zeros-most 1 n; marks = λ p z q hp hz hq. rw e (no-marks (rulesOf b) (statesOf b) (symbolsOf b) n p z q hp hz hq) }
+
+-- The marks of an accepted model.
+pub live-of : {b l : List ℕ} {s g : ℕ} → modelVerdict b ≡ Accepted → s ≡ statesOf b → g ≡ symbolsOf b → AtMost 1 l
+    → Same s g (entries s g l) (alive (rulesOf b) s g) → LiveMarks b l
+unfolding liveMark
+live-of {b} {l} e hs hg small same = record { small = small; marks = λ p z q hp hz hq. rw (e, ← hs, ← hg) (same p z q (rw hs hp) (rw hg hz) (rw hs hq)) }

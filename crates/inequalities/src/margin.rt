@@ -1,0 +1,78 @@
+// The margin of a delivery's uppers: the least share over the live entries, in 1/2^20.
+
+use delivery::shape::rows;
+use equations::chances::f;
+use equations::chances::value;
+ghost use mathlib.Core.Path.{_≡_};
+ghost use Prim.Native.Nat.{_*_, _^_, _≤_, _<_};
+ghost use Rattle.ppda.specs.Sums.{leastTo};
+ghost use Rattle.ppda.specs.Margin.{share, shareAt};
+ghost use Rattle.equations.specs.Held.{Sized, Starts, AtMost};
+ghost use Rattle.inequalities.specs.Shares.{StrictAt, Strict, shareOf, leastShare};
+
+// The share (u − y) / u of an upper u and f(u) = y, in 1/2^20, rounded down.
+fn share(u: u64, y: u64) -> u64
+    requires { ⌜ (0 < u) × (u ≤ 2097152) × (y ≤ u * 2 ^ 36) ⌝ }
+    ensures { λ r. ⌜ r ≡ share u y ⌝ }
+{
+    (u * 68719476736 - y) / (u * 65536)
+}
+
+// An entry's part in the margin, by its mark.
+fn share_at(live: u64, u: u64, y: u64) -> u64
+    requires { ⌜ (u ≤ 2097152) × StrictAt live u y ⌝ }
+    ensures { λ r. ⌜ r ≡ shareAt live u y ⌝ }
+{
+    if live == 0 {
+        return 1048576;
+    }
+    share(u, y)
+}
+
+// The least of `least` and the shares of row (p, z).
+fn least_of_row(
+    model: &[u8],
+    starts: &[usize; 129],
+    live: &[u32; 1024],
+    uppers: &[u32; 1024],
+    s: usize,
+    g: usize,
+    p: usize,
+    z: usize,
+    least: u64,
+) -> u64
+    requires { ⌜ Sized (now model) s g × Starts (now model) g (s * g) (now starts) × AtMost 2097152 (now uppers) × Strict (now model) s g (now live) (now uppers) × (p < s) × (z < g) ⌝ }
+    ensures { λ r. ⌜ r ≡ leastTo least (shareOf (now (model .entry)) s g (now (live .entry)) (now (uppers .entry)) p z) s ⌝ }
+{
+    let mut least = least;
+    let mut q = 0;
+    while q < s {
+        let y = f(model, starts, uppers, s, g, 1048576, p, z, q);
+        let share = share_at(value(live, s, g, p, z, q), value(uppers, s, g, p, z, q), y);
+        least = if share < least { share } else { least };
+        q += 1;
+    }
+    least
+}
+
+// The margin: the least share over the live entries, and 2^20 where nothing is live.
+pub fn margin_of(
+    model: &[u8],
+    starts: &[usize; 129],
+    live: &[u32; 1024],
+    uppers: &[u32; 1024],
+    s: usize,
+    g: usize,
+) -> u64
+    requires { ⌜ Sized (now model) s g × Starts (now model) g (s * g) (now starts) × AtMost 2097152 (now uppers) × Strict (now model) s g (now live) (now uppers) ⌝ }
+    ensures { λ r. ⌜ r ≡ leastShare (now (model .entry)) s g (now (live .entry)) (now (uppers .entry)) ⌝ }
+{
+    let n = rows(s, g);
+    let mut least = 1048576;
+    let mut k = 0;
+    while k < n {
+        least = least_of_row(model, starts, live, uppers, s, g, k / g, k % g, least);
+        k += 1;
+    }
+    least
+}

@@ -1,0 +1,129 @@
+// The tests 24 and 26: a number against f at its entry, in 1/2^56.
+
+use delivery::shape::rows;
+use equations::chances::f;
+use equations::chances::value;
+use model::record::row_number;
+use outcome::Outcome;
+use outcome::Reason;
+use outcome::difference;
+ghost use mathlib.Core.Path.{_≡_};
+ghost use mathlib.Core.List.{[], _∷_};
+ghost use Prim.Native.Nat.{_*_, _^_, _≤_, _<_};
+ghost use Rattle.outcome.specs.Tests.{first, each};
+ghost use Rattle.delivery.specs.Layout.{eachEntry};
+ghost use Rattle.equations.specs.Held.{Sized, Starts, AtMost};
+ghost use Rattle.inequalities.specs.Inequalities.{upperTest, lowerTest};
+ghost use Rattle.inequalities.specs.Walks.{sideTest, sideAt};
+
+// Which side of the equations a number stands on: at least f; above f at a live entry; at most f.
+pub enum Side {
+    Upper,
+    StrictUpper,
+    Lower,
+}
+
+// u against f(u) = y: a missed inequality has the shortfall u − y.
+fn check_upper(strict: bool, live: u64, u: u64, y: u64, place: usize) -> Outcome
+    requires { ⌜ (u ≤ 2097152) × (y ≤ 2 ^ 61) ⌝ }
+    ensures { λ r. ⌜ r ≡ first (upperTest strict live u y place ∷ []) ⌝ }
+{
+    let have = u * 68719476736;
+    if (have < y) | (strict & ((live == 1) & (have <= y))) {
+        return Outcome::Refused {
+            reason: Reason::UpperTooSmall,
+            place,
+            shortfall: difference(have, y),
+        };
+    }
+    Outcome::Accepted
+}
+
+// l against f(l) = y: a missed inequality has the shortfall y − l.
+fn check_lower(l: u64, y: u64, place: usize) -> Outcome
+    requires { ⌜ (l ≤ 2097152) × (y ≤ 2 ^ 61) ⌝ }
+    ensures { λ r. ⌜ r ≡ first (lowerTest l y place ∷ []) ⌝ }
+{
+    let need = l * 68719476736;
+    if y < need {
+        return Outcome::Refused {
+            reason: Reason::LowerTooLarge,
+            place,
+            shortfall: difference(y, need),
+        };
+    }
+    Outcome::Accepted
+}
+
+// One number v with its mark and f = y.
+fn check_side(side: Side, live: u64, v: u64, y: u64, place: usize) -> Outcome
+    requires { ⌜ (v ≤ 2097152) × (y ≤ 2 ^ 61) ⌝ }
+    ensures { λ r. ⌜ r ≡ first (sideTest side live v y place ∷ []) ⌝ }
+{
+    match side {
+        Side::Upper => check_upper(false, live, v, y, place),
+        Side::StrictUpper => check_upper(true, live, v, y, place),
+        Side::Lower => check_lower(v, y, place),
+    }
+}
+
+// The numbers of row (p, z). The block starts at record `from`.
+fn check_row(
+    side: Side,
+    model: &[u8],
+    starts: &[usize; 129],
+    live: &[u32; 1024],
+    values: &[u32; 1024],
+    s: usize,
+    g: usize,
+    p: usize,
+    z: usize,
+    from: usize,
+) -> Outcome
+    requires { ⌜ Sized (now model) s g × Starts (now model) g (s * g) (now starts) × AtMost 2097152 (now values) × (p < s) × (z < g) × (from ≤ 1024) ⌝ }
+    ensures { λ r. ⌜ r ≡ first (each s (sideAt side (now (model .entry)) s g (now (live .entry)) (now (values .entry)) from p z)) ⌝ }
+{
+    let at = row_number(p, g, z) * s;
+    let mut q = 0;
+    while q < s {
+        let y = f(model, starts, values, s, g, 1048576, p, z, q);
+        let found = check_side(
+            side,
+            value(live, s, g, p, z, q),
+            value(values, s, g, p, z, q),
+            y,
+            from + (at + q),
+        );
+        if let Outcome::Refused { .. } = found {
+            return found;
+        }
+        q += 1;
+    }
+    Outcome::Accepted
+}
+
+// The numbers of a block, which starts at record `from`, each against f at its entry.
+pub fn check(
+    side: Side,
+    model: &[u8],
+    starts: &[usize; 129],
+    live: &[u32; 1024],
+    values: &[u32; 1024],
+    s: usize,
+    g: usize,
+    from: usize,
+) -> Outcome
+    requires { ⌜ Sized (now model) s g × Starts (now model) g (s * g) (now starts) × AtMost 2097152 (now values) × (from ≤ 1024) ⌝ }
+    ensures { λ r. ⌜ r ≡ first (eachEntry s g (sideAt side (now (model .entry)) s g (now (live .entry)) (now (values .entry)) from)) ⌝ }
+{
+    let n = rows(s, g);
+    let mut k = 0;
+    while k < n {
+        let found = check_row(side, model, starts, live, values, s, g, k / g, k % g, from);
+        if let Outcome::Refused { .. } = found {
+            return found;
+        }
+        k += 1;
+    }
+    Outcome::Accepted
+}
