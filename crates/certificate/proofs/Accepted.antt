@@ -11,7 +11,7 @@ use lib.IntN.{ℤ, pos, negsuc, subℕ, pos-ne-negsuc}
 use borrow.Author.Tests.{ltb-true, ltb-false, leb-true, leb-false, eqb-true, not-false, le-ltb, lt-leb, eq-eqb}
 use Rattle.outcome.specs.declared.Reason.{Reason}
 use Rattle.outcome.specs.declared.Outcome.the-variants.{Accepted, Refused}
-use Rattle.outcome.specs.Tests.{Test, plain, refusal, each, Passed, FirstFailure}
+use Rattle.outcome.specs.Tests.{Test, plain, refusal, first, each, Passed, FirstFailure}
 use Rattle.outcome.proofs.Exactly.{not-lt-exactly, le-exactly, eq-exactly, both, not-exactly, and-fails, or-fails}
 use Rattle.outcome.proofs.Tests.{accepted-exactly, refused-exactly, first-failure, first-stands, passed-one, passed-append, passed-each}
 use Rattle.ppda.specs.Sums.{In}
@@ -153,17 +153,24 @@ UppersHold b s g lowers d =
     AtEntries s g (λ p z q.
     UpperRight lowers (alive (rulesOf b) s g p z q) (uppersOf s g d p z q) (f (rulesOf b) s (2 ^ 20) (uppersOf s g d) p z q))
 
-module _ (b : List ℕ) (s g : ℕ) (h : Shape) (d : List ℕ) where
-  says-layout : Says (layoutTests s g h d)
-      (AtEntries s g (λ p z q. RecordDue d (entryAt s g p z q) Uppers p z q)
-      × ((hasLowers h ≡ true → AtEntries s g (λ p z q. RecordDue d (entriesIn s g + entryAt s g p z q) Lowers p z q))
-      × (hasMeans h ≡ true → AtRows s g (λ p z. RecordDue d (meansFrom s g h + rowAt g p z) Means p z 0))))
-  unfolding layoutTests upperRecords lowerRecords meanRecords
-  says-layout =
-      says-append (says-entries (λ p z q. says-due d _ Uppers p z q))
-      (says-append (says-only (hasLowers h) (says-entries (λ p z q. says-due d _ Lowers p z q)))
-      (says-only (hasMeans h) (says-rows (λ p z. says-due d _ Means p z 0))))
+-- What 21 and 22 ask of a file of shape h: each record is due.
+abbrev pub LayoutRight : ℕ → ℕ → Shape → List ℕ → Type 0
+LayoutRight s g h d =
+    AtEntries s g (λ p z q. RecordDue d (entryAt s g p z q) Uppers p z q)
+    × ((hasLowers h ≡ true → AtEntries s g (λ p z q. RecordDue d (entriesIn s g + entryAt s g p z q) Lowers p z q))
+    × (hasMeans h ≡ true → AtRows s g (λ p z. RecordDue d (meansFrom s g h + rowAt g p z) Means p z 0)))
 
+says-layout : (s g : ℕ) (h : Shape) (d : List ℕ) → Says (layoutTests s g h d) (LayoutRight s g h d)
+unfolding layoutTests upperRecords lowerRecords meanRecords
+says-layout s g h d =
+    says-append (says-entries (λ p z q. says-due d _ Uppers p z q))
+    (says-append (says-only (hasLowers h) (says-entries (λ p z q. says-due d _ Lowers p z q)))
+    (says-only (hasMeans h) (says-rows (λ p z. says-due d _ Means p z 0))))
+
+pub layout-right : (s g : ℕ) (h : Shape) (d : List ℕ) → first (layoutTests s g h d) ≡ Accepted → LayoutRight s g h d
+layout-right s g h d e = says-layout s g h d .exactly .0 (accepted-exactly (layoutTests s g h d) .0 e)
+
+module _ (b : List ℕ) (s g : ℕ) (h : Shape) (d : List ℕ) where
   says-numbers : Says (numberTests b s g h d)
       (AtEntries s g (λ p z q. alive (rulesOf b) s g p z q ≡ 0 → uppersOf s g d p z q ≡ 0)
       × ((hasLowers h ≡ true → AtEntries s g (λ p z q. alive (rulesOf b) s g p z q ≡ 0 → lowersOf s g d p z q ≡ 0))
@@ -190,7 +197,7 @@ record BlocksRight (b : List ℕ) (s g : ℕ) (h : Shape) (d : List ℕ) : Type 
 module _ (b : List ℕ) (s g : ℕ) (h : Shape) (d : List ℕ) where
   blocks-of-passed : Passed (layoutTests s g h d ++ numberTests b s g h d) → BlocksRight b s g h d
   blocks-of-passed passed =
-      let (layout, numbers) = says-append (says-layout b s g h d) (says-numbers b s g h d) .exactly .0 passed in
+      let (layout, numbers) = says-append (says-layout s g h d) (says-numbers b s g h d) .exactly .0 passed in
       let (uppers, (lowers, means)) = layout in
       let (dead, (dead-lowers, (hold, (below, (lower, mean))))) = numbers in
       record {
@@ -207,7 +214,7 @@ module _ (b : List ℕ) (s g : ℕ) (h : Shape) (d : List ℕ) where
 
   passed-of-blocks : BlocksRight b s g h d → Passed (layoutTests s g h d ++ numberTests b s g h d)
   passed-of-blocks r =
-      says-append (says-layout b s g h d) (says-numbers b s g h d) .exactly .1 (
+      says-append (says-layout s g h d) (says-numbers b s g h d) .exactly .1 (
         (r .uppers .due, (λ e. r .lowers e .due, λ e. r .means e .due)),
         (
           r .uppers .dead,

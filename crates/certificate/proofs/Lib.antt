@@ -1,4 +1,7 @@
--- Theorems about the verdict on a delivery.
+-- Theorems about the verdict on a delivery, and its tests and its margin as the code works them out.
 pub mod Accepted
 pub mod Holds
 pub mod Edges
+pub mod Blocks
+pub mod Rest
+pub mod Shares

@@ -1,52 +1,78 @@
+-- `least_of_row`: the least value carried is that of the shares passed.
+use Prim.Native.Nat.{_-_, _≤_, _<_, min}
+use native.Mathlib.Omega.{arith}
+use mathlib.Core.Logic.{⊎-elim}
+use mathlib.Core.Path.{_≡_, ap, _∙_}
+use denote.Ref.{now}
+use borrow.Author.Needs.{needs}
+use Rattle.ppda.specs.Sums.{leastTo}
+use Rattle.equations.proofs.Ranges.{few-states, few-symbols}
+use Rattle.inequalities.specs.Shares.{shareOf}
+use Rattle.inequalities.proofs.Shares.{strict-found, share-found, least-none, least-more}
 use Rattle.inequalities.proofs.margin.least_of_row.Statement.{statement}
 use Rattle.inequalities.proofs.margin.least_of_row.Tie as tie
-use Rattle.inequalities.proofs.margin.least_of_row.Reads as reads
-use Rattle.inequalities.proofs.margin.least_of_row.Lts as lts
-use Rattle.equations.proofs.chances.f.Reads as f-reads
-use Rattle.equations.proofs.chances.value.Reads as value-reads
-use Rattle.inequalities.proofs.margin.share_at.Reads as share-at-reads
 
 abbrev Inv-loop : tie.InvT-loop
-Inv-loop model starts live uppers s g p z least least₀ q₀ least' q = ?
+Inv-loop model starts live uppers s g p z least least₀ q₀ least' q =
+    (q ≤ s) × (least' ≡ leastTo least (shareOf model s g live uppers p z) q)
 
 abbrev μ-loop : tie.MeasureT-loop
-μ-loop model starts live uppers s g p z least least₀ q₀ least' q = ?
+μ-loop model starts live uppers s g p z least least₀ q₀ least' q = s - q
 
--- src/margin.rt:40:5
+-- The sizes of an accepted model.
+sizes : (c : tie.Start Inv-loop μ-loop) → (c .args .s < 9) × (c .args .g < 17) × (c .args .p < 8) × (c .args .z < 16)
+sizes c = omega (arith, few-states (c .pre .0), few-symbols (c .pre .0))
+
+-- The share found is that of the entry.
+found : (c : tie.After-share-at Inv-loop μ-loop)
+    → let args = c .before .before .before .before .before .before .before .args in
+    c .share-at .result
+    ≡ shareOf (now (args .model)) (args .s) (args .g) (now (args .live)) (now (args .uppers)) (args .p) (args .z)
+    (c .before .before .before .before .before .loop .q)
+found c =
+    share-found (c .before .before .value .ensures .0) (c .before .value2 .ensures .0) (c .before .before .before .f .ensures .0)
+    (c .share-at .ensures)
+
+-- The branch keeps the less of the two.
+kept : (c : tie.Joined1 Inv-loop μ-loop)
+    → c .if1 .least ≡ min (c .before .before .before .before .before .before .loop .least) (c .before .share-at .result)
+kept c = ⊎-elim (λ w. omega arith) (λ w. omega arith) (c .if1 .came)
+
 loop-holds : tie.Need-loop-holds Inv-loop μ-loop
-loop-holds c = ?
+loop-holds c = (search needs, least-none _ _)
 
--- src/margin.rt:41:13
 f-requires : tie.Need-f-requires Inv-loop μ-loop
-f-requires c κs = ?
+f-requires c κs =
+    let pre = c .before .before .before .pre in (pre .0, pre .1, pre .2, omega arith, pre .4, pre .5, c .loop-test .taken)
 
--- src/margin.rt:42:30
 value-requires : tie.Need-value-requires Inv-loop μ-loop
-value-requires c κs = ?
+value-requires c κs = omega (arith, sizes (c .before .before .before .before))
 
--- src/margin.rt:42:58
 value-requires-2 : tie.Need-value-requires-2 Inv-loop μ-loop
-value-requires-2 c κs = ?
+value-requires-2 c κs = omega (arith, sizes (c .before .before .before .before .before))
 
--- src/margin.rt:42:13
 share-at-requires : tie.Need-share-at-requires Inv-loop μ-loop
-share-at-requires c κs = ?
+share-at-requires c κs =
+    let pre = c .before .before .before .before .before .before .pre in (
+      rw (c .value2 .ensures .0) (pre .2 _),
+      strict-found (c .before .value .ensures .0) (c .value2 .ensures .0) (c .before .before .f .ensures .0)
+          (pre .3 _ _ _ (pre .4) (pre .5) (c .before .before .before .loop-test .taken)),
+    )
 
--- src/margin.rt:44:9
 add-q : tie.Need-add-q Inv-loop μ-loop
-add-q c = ?
+add-q c = omega (arith, sizes (c .before .before .before .before .before .before .before .before))
 
--- src/margin.rt:40:5
 loop-less : tie.Need-loop-less Inv-loop μ-loop
-loop-less c = ?
+loop-less c = search needs
 
--- src/margin.rt:40:5
 loop-again : tie.Need-loop-again Inv-loop μ-loop
-loop-again c = ?
+loop-again c = (
+  omega arith,
+  least-more _ _ _ (c .before .before .before .before .before .before .loop .inv .1) (found (c .before)) (kept c),
+)
 
--- src/margin.rt:34:1
 returns : tie.Need-returns Inv-loop μ-loop
-returns c = ?
+returns c = c .before .loop .inv .1 ∙ ap (leastTo _ _) (omega arith)
 
 pub least-of-row-spec : {M : Type 1} → statement M
 least-of-row-spec =

@@ -1,62 +1,59 @@
+-- `check_below`: the loop returns at the first lower above its upper, after every lower before it has passed.
+use Prim.Native.Nat.{_-_, _≤_}
+use native.Mathlib.Omega.{arith}
+use mathlib.Core.Path.{_≡_, sym, _∙_}
+use borrow.Author.Needs.{needs}
+use Rattle.outcome.proofs.Tests.{each-none, each-more, each-refused, each-end}
+use Rattle.outcome.specs.Tests.{first, each}
+use Rattle.outcome.specs.declared.Outcome.the-variants.{Accepted}
+use Rattle.inequalities.specs.Walks.{belowAt}
+use Rattle.inequalities.proofs.Tests.{below-fails, below-passes}
 use Rattle.inequalities.proofs.marks.check_below.Statement.{statement}
 use Rattle.inequalities.proofs.marks.check_below.Tie as tie
-use Rattle.inequalities.proofs.marks.check_below.Reads as reads
-use Rattle.inequalities.proofs.marks.check_below.Lts as lts
-use Rattle.outcome.proofs.refused.Reads as refused-reads
 
 abbrev Inv-loop : tie.InvT-loop
-Inv-loop lowers uppers n from e₀ e = ?
+Inv-loop lowers uppers n from e₀ e = (e ≤ n) × (first (each e (belowAt lowers uppers from)) ≡ Accepted)
 
 abbrev μ-loop : tie.MeasureT-loop
-μ-loop lowers uppers n from e₀ e = ?
+μ-loop lowers uppers n from e₀ e = n - e
 
--- src/marks.rt:33:5
 loop-holds : tie.Need-loop-holds Inv-loop μ-loop
-loop-holds c = ?
+loop-holds c = (search needs, each-none _)
 
--- src/marks.rt:34:12
 mul-if1 : tie.Need-mul-if1 Inv-loop μ-loop
-mul-if1 c = ?
+mul-if1 c = search needs
 
--- src/marks.rt:34:12
 element-copy-out-if1 : tie.Need-element-copy-out-if1 Inv-loop μ-loop
-element-copy-out-if1 c = ?
+element-copy-out-if1 c = search needs
 
--- src/marks.rt:34:24
 mul-if1-2 : tie.Need-mul-if1-2 Inv-loop μ-loop
-mul-if1-2 c = ?
+mul-if1-2 c = search needs
 
--- src/marks.rt:34:24
 element-copy-out-if1-2 : tie.Need-element-copy-out-if1-2 Inv-loop μ-loop
-element-copy-out-if1-2 c = ?
+element-copy-out-if1-2 c = search needs
 
--- src/marks.rt:35:53
 add-refused : tie.Need-add-refused Inv-loop μ-loop
-add-refused c = ?
+add-refused c = search needs
 
--- src/marks.rt:35:13
 refused-requires : tie.Need-refused-requires Inv-loop μ-loop
-refused-requires c κs = ?
+refused-requires c κs = search needs
 
--- src/marks.rt:35:13
 returns : tie.Need-returns Inv-loop μ-loop
-returns c = ?
+returns c =
+    each-refused _ _ _ _ (omega arith) (c .before .before .before .before .before .loop .inv .1)
+    (c .refused .ensures ∙ sym (below-fails _ _ _ (c .before .if1 .taken))) (c .refused .ensures)
 
--- src/marks.rt:37:9
 add-e : tie.Need-add-e Inv-loop μ-loop
-add-e c = ?
+add-e c = search needs
 
--- src/marks.rt:33:5
 loop-less : tie.Need-loop-less Inv-loop μ-loop
-loop-less c = ?
+loop-less c = search needs
 
--- src/marks.rt:33:5
 loop-again : tie.Need-loop-again Inv-loop μ-loop
-loop-again c = ?
+loop-again c = (omega arith, each-more _ _ (c .before .before .before .before .loop .inv .1) (below-passes _ _ _ (c .if1 .left)))
 
--- src/marks.rt:28:1
 returns-2 : tie.Need-returns-2 Inv-loop μ-loop
-returns-2 c = ?
+returns-2 c = sym (each-end _ _ _ (c .before .loop .inv .1) (omega arith))
 
 pub check-below-spec : {M : Type 1} → statement M
 check-below-spec =

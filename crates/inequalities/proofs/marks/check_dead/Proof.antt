@@ -1,62 +1,59 @@
+-- `check_dead`: the loop returns at the first dead number that is not 0, after every number before it has passed.
+use Prim.Native.Nat.{_-_, _≤_}
+use native.Mathlib.Omega.{arith}
+use mathlib.Core.Path.{_≡_, sym, _∙_}
+use borrow.Author.Needs.{needs}
+use Rattle.outcome.proofs.Tests.{each-none, each-more, each-refused, each-end}
+use Rattle.outcome.specs.Tests.{first, each}
+use Rattle.outcome.specs.declared.Outcome.the-variants.{Accepted}
+use Rattle.inequalities.specs.Walks.{deadAt}
+use Rattle.inequalities.proofs.Tests.{dead-fails, dead-passes}
 use Rattle.inequalities.proofs.marks.check_dead.Statement.{statement}
 use Rattle.inequalities.proofs.marks.check_dead.Tie as tie
-use Rattle.inequalities.proofs.marks.check_dead.Reads as reads
-use Rattle.inequalities.proofs.marks.check_dead.Lts as lts
-use Rattle.outcome.proofs.refused.Reads as refused-reads
 
 abbrev Inv-loop : tie.InvT-loop
-Inv-loop live values n from e₀ e = ?
+Inv-loop live values n from e₀ e = (e ≤ n) × (first (each e (deadAt live values from)) ≡ Accepted)
 
 abbrev μ-loop : tie.MeasureT-loop
-μ-loop live values n from e₀ e = ?
+μ-loop live values n from e₀ e = n - e
 
--- src/marks.rt:18:5
 loop-holds : tie.Need-loop-holds Inv-loop μ-loop
-loop-holds c = ?
+loop-holds c = (search needs, each-none _)
 
--- src/marks.rt:19:13
 mul-if1 : tie.Need-mul-if1 Inv-loop μ-loop
-mul-if1 c = ?
+mul-if1 c = search needs
 
--- src/marks.rt:19:13
 element-copy-out-if1 : tie.Need-element-copy-out-if1 Inv-loop μ-loop
-element-copy-out-if1 c = ?
+element-copy-out-if1 c = search needs
 
--- src/marks.rt:19:30
 mul-if1-2 : tie.Need-mul-if1-2 Inv-loop μ-loop
-mul-if1-2 c = ?
+mul-if1-2 c = search needs
 
--- src/marks.rt:19:30
 element-copy-out-if1-2 : tie.Need-element-copy-out-if1-2 Inv-loop μ-loop
-element-copy-out-if1-2 c = ?
+element-copy-out-if1-2 c = search needs
 
--- src/marks.rt:20:49
 add-refused : tie.Need-add-refused Inv-loop μ-loop
-add-refused c = ?
+add-refused c = search needs
 
--- src/marks.rt:20:13
 refused-requires : tie.Need-refused-requires Inv-loop μ-loop
-refused-requires c κs = ?
+refused-requires c κs = search needs
 
--- src/marks.rt:20:13
 returns : tie.Need-returns Inv-loop μ-loop
-returns c = ?
+returns c =
+    each-refused _ _ _ _ (omega arith) (c .before .before .before .before .before .loop .inv .1)
+    (c .refused .ensures ∙ sym (dead-fails _ _ _ (c .before .if1 .taken))) (c .refused .ensures)
 
--- src/marks.rt:22:9
 add-e : tie.Need-add-e Inv-loop μ-loop
-add-e c = ?
+add-e c = search needs
 
--- src/marks.rt:18:5
 loop-less : tie.Need-loop-less Inv-loop μ-loop
-loop-less c = ?
+loop-less c = search needs
 
--- src/marks.rt:18:5
 loop-again : tie.Need-loop-again Inv-loop μ-loop
-loop-again c = ?
+loop-again c = (omega arith, each-more _ _ (c .before .before .before .before .loop .inv .1) (dead-passes _ _ _ (c .if1 .left)))
 
--- src/marks.rt:13:1
 returns-2 : tie.Need-returns-2 Inv-loop μ-loop
-returns-2 c = ?
+returns-2 c = sym (each-end _ _ _ (c .before .loop .inv .1) (omega arith))
 
 pub check-dead-spec : {M : Type 1} → statement M
 check-dead-spec =

@@ -1,80 +1,105 @@
+-- `check_row`: the loop returns at the first entry that is refused, after every entry before it has passed.
+use Prim.Native.Nat.{_+_, _*_, _-_, _≤_, _<_}
+use native.Mathlib.Omega.{arith}
+use mathlib.Core.Path.{_≡_, sym, _∙_}
+use denote.Ref.{now}
+use borrow.Author.Needs.{needs}
+use Rattle.outcome.proofs.Tests.{each-none, each-more, each-refused, each-end}
+use Rattle.outcome.specs.Tests.{first, each}
+use Rattle.outcome.specs.declared.Outcome.the-variants.{Accepted}
+use Rattle.equations.proofs.Ranges.{place, few-states, few-symbols}
+use Rattle.inequalities.specs.Walks.{sideAt}
+use Rattle.inequalities.proofs.Tests.{side-found}
 use Rattle.inequalities.proofs.sides.check_row.Statement.{statement}
 use Rattle.inequalities.proofs.sides.check_row.Tie as tie
-use Rattle.inequalities.proofs.sides.check_row.Reads as reads
-use Rattle.inequalities.proofs.sides.check_row.Lts as lts
-use Rattle.equations.proofs.chances.f.Reads as f-reads
-use Rattle.equations.proofs.chances.value.Reads as value-reads
-use Rattle.inequalities.proofs.sides.check_side.Reads as check-side-reads
-use Rattle.model.proofs.record.row_number.Reads as row-number-reads
 
 abbrev Inv-loop : tie.InvT-loop
-Inv-loop side model starts live values s g p z from at q₀ q = ?
+Inv-loop side model starts live values s g p z from at q₀ q =
+    (q ≤ s) × (first (each q (sideAt side model s g live values from p z)) ≡ Accepted)
 
 abbrev μ-loop : tie.MeasureT-loop
-μ-loop side model starts live values s g p z from at q₀ q = ?
+μ-loop side model starts live values s g p z from at q₀ q = s - q
 
--- src/sides.rt:76:14
+-- The sizes of an accepted model.
+sizes : (c : tie.Start Inv-loop μ-loop) → (c .args .s < 9) × (c .args .g < 17) × (c .args .p < 8) × (c .args .z < 16)
+sizes c = omega (arith, few-states (c .pre .0), few-symbols (c .pre .0))
+
+-- The entry's place is one of 1,024.
+within : (c : tie.In-loop Inv-loop μ-loop)
+    → c .before .before .row-number .result * c .before .before .before .before .args .s + c .before .loop .q < 1024
+within c =
+    let few = sizes (c .before .before .before .before) .0 in
+    place _ _ _ (c .before .before .row-number .ensures .1) few (omega arith)
+
+-- The outcome found is that of the entry's test.
+found : (c : tie.After-check-side Inv-loop μ-loop)
+    → let args = c .before .before .before .before .before .before .before .before .args in
+    c .check-side .result
+    ≡ first (sideAt (args .side) (now (args .model)) (args .s) (args .g) (now (args .live)) (now (args .values)) (args .from)
+    (args .p) (args .z) (c .before .before .before .before .before .loop .q))
+found c =
+    let args = c .before .before .before .before .before .before .before .before .args in
+    side-found (args .side) (now (args .model)) (args .s) (args .g) (now (args .live)) (now (args .values)) (args .from)
+    (args .p) (args .z) _
+    (c .before .before .value .ensures .0) (c .before .value2 .ensures .0) (c .before .before .before .f .ensures .0)
+    (c .before .before .before .before .before .before .row-number .ensures .0) (c .check-side .ensures)
+
 row-number-requires : tie.Need-row-number-requires Inv-loop μ-loop
-row-number-requires c κs = ?
+row-number-requires c κs = omega (arith, sizes (c .before))
 
--- src/sides.rt:76:14
 mul-at : tie.Need-mul-at Inv-loop μ-loop
-mul-at c = ?
+mul-at c = omega (arith, place _ _ 0 (c .row-number .ensures .1) (sizes (c .before .before) .0) (omega arith))
 
--- src/sides.rt:78:5
 loop-holds : tie.Need-loop-holds Inv-loop μ-loop
-loop-holds c = ?
+loop-holds c = (search needs, each-none _)
 
--- src/sides.rt:79:13
 f-requires : tie.Need-f-requires Inv-loop μ-loop
-f-requires c κs = ?
+f-requires c κs =
+    let pre = c .before .before .before .before .pre in (pre .0, pre .1, pre .2, omega arith, pre .3, pre .4, c .loop-test .taken)
 
--- src/sides.rt:80:38
 value-requires : tie.Need-value-requires Inv-loop μ-loop
-value-requires c κs = ?
+value-requires c κs = omega (arith, sizes (c .before .before .before .before .before))
 
--- src/sides.rt:80:66
 value-requires-2 : tie.Need-value-requires-2 Inv-loop μ-loop
-value-requires-2 c κs = ?
+value-requires-2 c κs = omega (arith, sizes (c .before .before .before .before .before .before))
 
--- src/sides.rt:80:107
 add-check-side : tie.Need-add-check-side Inv-loop μ-loop
-add-check-side c = ?
+add-check-side c = omega (arith, within (c .before .before .before))
 
--- src/sides.rt:80:99
 add-check-side-2 : tie.Need-add-check-side-2 Inv-loop μ-loop
-add-check-side-2 c = ?
+add-check-side-2 c = omega (arith, within (c .before .before .before))
 
--- src/sides.rt:80:13
 check-side-requires : tie.Need-check-side-requires Inv-loop μ-loop
-check-side-requires c κs = ?
+check-side-requires c κs =
+    let most = c .before .before .before .before .before .before .before .pre .2 in
+    (rw (c .value2 .ensures .0) (most _), c .before .before .f .ensures .1)
 
--- src/sides.rt:82:13
 enum-told : tie.Need-enum-told Inv-loop μ-loop
-enum-told c = ?
+enum-told c = search needs
 
--- src/sides.rt:82:13
 returns : tie.Need-returns Inv-loop μ-loop
-returns c = ?
+returns c =
+    each-refused _ _ _ _ (c .before .before .before .before .before .before .loop-test .taken)
+    (c .before .before .before .before .before .before .before .loop .inv .1) (found (c .before .before)) (c .enum-told .given .1)
 
 enum-told-2 : tie.Need-enum-told-2 Inv-loop μ-loop
-enum-told-2 c = ?
+enum-told-2 c = search needs
 
--- src/sides.rt:84:9
 add-q : tie.Need-add-q Inv-loop μ-loop
-add-q c = ?
+add-q c = omega (arith, sizes (c .before .before .before .before .before .before .before .before .before .before))
 
--- src/sides.rt:78:5
 loop-less : tie.Need-loop-less Inv-loop μ-loop
-loop-less c = ?
+loop-less c = search needs
 
--- src/sides.rt:78:5
 loop-again : tie.Need-loop-again Inv-loop μ-loop
-loop-again c = ?
+loop-again c = (
+  omega arith,
+  each-more _ _ (c .before .before .before .before .before .before .before .loop .inv .1)
+      (sym (found (c .before .before)) ∙ c .enum-told2 .given .1),
+)
 
--- src/sides.rt:72:1
 returns-2 : tie.Need-returns-2 Inv-loop μ-loop
-returns-2 c = ?
+returns-2 c = sym (each-end _ _ _ (c .before .loop .inv .1) (omega arith))
 
 pub check-row-spec : {M : Type 1} → statement M
 check-row-spec =

@@ -1,0 +1,132 @@
+-- The tests of a block of numbers, as the code goes through them: they read no number but those of the model's entries and rows, number by
+-- number they are the tests by (p, Z, q), and the list of a block's values stands for the block.
+use Prim.Native.Nat.{ℕ, _+_, _*_, _^_, _≤_, _<_}
+use native.Mathlib.Nat.{zero-add}
+use native.Mathlib.Omega.{arith}
+use mathlib.Core.Bool.{Bool, true, false, cond}
+use mathlib.Core.List.{List, [], _∷_}
+use mathlib.Core.Path.{_≡_, refl, sym, ap, ap₂, _∙_}
+use lib.Dec.{ltb}
+use lib.ListN.{getD}
+use borrow.Author.Tests.{ltb-true, ltb-false}
+use Rattle.outcome.specs.Tests.{Test, each}
+use Rattle.outcome.proofs.Tests.{each-cong}
+use Rattle.ppda.specs.Rules.{Rule, IsModel}
+use Rattle.ppda.specs.Equations.{Vector, RowVector, entries, rows, f}
+use Rattle.model.specs.Rules.{rulesOf}
+use Rattle.model.proofs.Rows.{row-below}
+use Rattle.delivery.specs.Records.{valueOf}
+use Rattle.delivery.specs.Shapes.{entriesIn}
+use Rattle.delivery.specs.Numbers.{entryAt, rowAt, uppersOf}
+use Rattle.delivery.specs.Layout.{eachEntry, eachRow}
+use Rattle.delivery.specs.Walks.{Values}
+use Rattle.delivery.proofs.Walks.{entries-by-number}
+use Rattle.equations.specs.Held.{AtMost, Same}
+use Rattle.equations.proofs.Marks.{place-below}
+use Rattle.equations.proofs.Vectors.{SameRows, f-same, mean-side-same}
+use Rattle.inequalities.specs.declared.sides.Side.the-variants.{Upper, StrictUpper, Lower}
+use Rattle.inequalities.specs.Inequalities.{deadTest, upperTest, belowTest, lowerTest, meanTest, deadTests, upperTests, belowTests, lowerTests, meanTests}
+use Rattle.inequalities.specs.Walks.{deadAt, belowAt, sideTest, sideAt, meanAt}
+use Rattle.certificate.specs.Rest.{rowsOfBlock}
+
+-- ---- the same numbers, the same tests
+
+entries-cong : (s g : ℕ) (h k : ℕ → ℕ → ℕ → List Test) → ((p z q : ℕ) → p < s → z < g → q < s → h p z q ≡ k p z q)
+    → eachEntry s g h ≡ eachEntry s g k
+unfolding eachEntry
+entries-cong s g h k e =
+    each-cong _ _ s (λ p hp. each-cong _ _ g (λ z hz. each-cong (h p z) (k p z) s (λ q hq. e p z q hp hz hq)))
+
+rows-cong : (s g : ℕ) (h k : ℕ → ℕ → List Test) → ((p z : ℕ) → p < s → z < g → h p z ≡ k p z) → eachRow s g h ≡ eachRow s g k
+unfolding eachRow
+rows-cong s g h k e = each-cong _ _ s (λ p hp. each-cong (h p) (k p) g (λ z hz. e p z hp hz))
+
+-- A vector is the same as itself.
+pub itself : {s g : ℕ} (v : Vector) → Same s g v v
+itself v p z q hp hz hq = refl
+
+pub dead-same : {s g : ℕ} {a a′ v v′ : Vector} (from : ℕ) → Same s g a a′ → Same s g v v′
+    → deadTests s g a v from ≡ deadTests s g a′ v′ from
+unfolding deadTests
+dead-same {s} {g} from marks numbers =
+    entries-cong s g _ _ (λ p z q hp hz hq.
+    ap₂ (λ m n. deadTest m n (from + entryAt s g p z q) ∷ []) (marks p z q hp hz hq) (numbers p z q hp hz hq))
+
+pub below-same : {s g : ℕ} {l l′ u u′ : Vector} → Same s g l l′ → Same s g u u′ → belowTests s g l u ≡ belowTests s g l′ u′
+unfolding belowTests
+below-same {s} {g} lowers uppers =
+    entries-cong s g _ _ (λ p z q hp hz hq.
+    ap₂ (λ m n. belowTest m n (entriesIn s g + entryAt s g p z q) ∷ []) (lowers p z q hp hz hq) (uppers p z q hp hz hq))
+
+module _ {m : List Rule} {s g : ℕ} (model : IsModel s g m) where
+  pub upper-same : {a a′ u u′ : Vector} (t : Bool) → Same s g a a′ → Same s g u u′ → upperTests m s g t a u ≡ upperTests m s g t a′ u′
+  unfolding upperTests
+  upper-same {a} {a′} {u} {u′} t marks uppers =
+      entries-cong s g _ _ (λ p z q hp hz hq.
+      ap (λ n. upperTest t n (u p z q) (f m s (2 ^ 20) u p z q) (entryAt s g p z q) ∷ []) (marks p z q hp hz hq)
+      ∙ ap₂ (λ n y. upperTest t (a′ p z q) n y (entryAt s g p z q) ∷ [])
+      (uppers p z q hp hz hq) (f-same model (2 ^ 20) u u′ uppers p z q hq))
+
+  pub lower-same : {l l′ : Vector} → Same s g l l′ → lowerTests m s g l ≡ lowerTests m s g l′
+  unfolding lowerTests
+  lower-same {l} {l′} lowers =
+      entries-cong s g _ _ (λ p z q hp hz hq.
+      ap₂ (λ n y. lowerTest n y (entriesIn s g + entryAt s g p z q) ∷ [])
+      (lowers p z q hp hz hq) (f-same model (2 ^ 20) l l′ lowers p z q hq))
+
+  pub mean-same : {u u′ : Vector} {r r′ : RowVector} (from : ℕ) → Same s g u u′ → SameRows s g r r′
+      → meanTests m s g u r from ≡ meanTests m s g u′ r′ from
+  unfolding meanTests
+  mean-same {u} {u′} {r} {r′} from uppers means =
+      rows-cong s g _ _ (λ p z hp hz.
+      ap₂ (λ n y. meanTest n y (from + rowAt g p z) ∷ [])
+      (means p z hp hz) (mean-side-same model (2 ^ 20) (2 ^ 8) u u′ r r′ uppers means p z))
+
+-- ---- the tests as the code goes through them
+
+pub dead-by-number : (s g : ℕ) (a v : List ℕ) (from : ℕ)
+    → each (s * g * s) (deadAt a v from) ≡ deadTests s g (entries s g a) (entries s g v) from
+unfolding deadTests
+dead-by-number s g a v from = sym (entries-by-number s g _ (deadAt a v from) (λ p z q hp hz hq. refl))
+
+pub below-by-number : (s g : ℕ) (l u : List ℕ)
+    → each (s * g * s) (belowAt l u (entriesIn s g)) ≡ belowTests s g (entries s g l) (entries s g u)
+unfolding belowTests
+below-by-number s g l u = sym (entries-by-number s g _ (belowAt l u (entriesIn s g)) (λ p z q hp hz hq. refl))
+
+-- The sides of uppers, by whether lowers stand.
+upper-side : (t : Bool) (a u y i : ℕ) → sideTest (cond t StrictUpper Upper) a u y (0 + i) ≡ upperTest t a u y i
+upper-side true a u y i = ap (upperTest true a u y) (zero-add i)
+upper-side false a u y i = ap (upperTest false a u y) (zero-add i)
+
+module _ (b : List ℕ) (s g : ℕ) where
+  pub uppers-by-side : (t : Bool) (a v : List ℕ)
+      → eachEntry s g (sideAt (cond t StrictUpper Upper) b s g a v 0) ≡ upperTests (rulesOf b) s g t (entries s g a) (entries s g v)
+  unfolding upperTests
+  uppers-by-side t a v = entries-cong s g _ _ (λ p z q hp hz hq. ap (λ x. x ∷ []) (upper-side t _ _ _ _))
+
+  pub lowers-by-side : (a v : List ℕ)
+      → eachEntry s g (sideAt Lower b s g a v (entriesIn s g)) ≡ lowerTests (rulesOf b) s g (entries s g v)
+  unfolding lowerTests
+  lowers-by-side a v = refl
+
+  pub means-by-row : (u r : List ℕ) (from : ℕ)
+      → eachRow s g (meanAt b s g u r from) ≡ meanTests (rulesOf b) s g (entries s g u) (rows g r) from
+  unfolding meanTests
+  means-by-row u r from = refl
+
+-- ---- the list of a block's values
+
+pub values-same : (s g : ℕ) {d l : List ℕ} → Values d (s * g * s) l → Same s g (entries s g l) (uppersOf s g d)
+unfolding uppersOf
+values-same s g values p z q hp hz hq = values .value (entryAt s g p z q) (place-below s g p z q hp hz hq)
+
+pub values-rows : (s g : ℕ) {d l : List ℕ} → Values d (s * g) l → SameRows s g (rows g l) (rowsOfBlock g d)
+values-rows s g values p z hp hz = values .value (rowAt g p z) (row-below s g p z hp hz)
+
+pub values-most : {d l : List ℕ} {n a : ℕ} → Values d n l → ((e : ℕ) → e < n → valueOf d e ≤ a) → AtMost a l
+values-most {d} {l} {n} {a} values most e = go (ltb e n) refl
+  where
+    go : (t : Bool) → ltb e n ≡ t → getD l e 0 ≤ a
+    go true q = let h : e < n = ltb-true e n q in rw (values .value e h) (most e h)
+    go false q = omega (arith, values .none e (ltb-false e n q))

@@ -1,0 +1,120 @@
+-- The rest of a file, from record V on: what it starts with and that it is in range, and that the tests of the file's numbers are those of
+-- the uppers and of the rest.
+use Prim.Native.Nat.{ℕ, _+_, _*_, _≤_, _<_}
+use native.Mathlib.Omega.{arith}
+use mathlib.Core.Bool.{Bool, true, false, cond}
+use mathlib.Core.List.{List, _++_}
+use mathlib.Core.Path.{_≡_, refl, ap, _∙_}
+use lib.ListN.{length, drop, length-drop}
+use lib.Seq.{drop-drop}
+use Rattle.outcome.specs.declared.Outcome.the-variants.{Accepted}
+use Rattle.outcome.specs.Tests.{first}
+use Rattle.ppda.specs.Rules.{IsModel}
+use Rattle.ppda.specs.Equations.{Vector}
+use Rattle.ppda.specs.Live.{alive}
+use Rattle.model.specs.Rules.{rulesOf}
+use Rattle.model.proofs.Rows.{row-split}
+use Rattle.delivery.specs.declared.shape.Shape.{Shape}
+use Rattle.delivery.specs.declared.shape.Shaped.the-variants.{Of}
+use Rattle.delivery.specs.Records.{valueOf}
+use Rattle.delivery.specs.Shapes.{entriesIn, rowsIn, hasLowers, meansFrom, shapeOf}
+use Rattle.delivery.specs.Numbers.{entryAt, rowAt, uppersOf, lowersOf, meansOf}
+use Rattle.delivery.specs.Layout.{layoutTests}
+use Rattle.delivery.proofs.Shapes.{uppers-fit, lowers-fit, means-fit}
+use Rattle.delivery.proofs.Walks.{rest-value}
+use Rattle.equations.specs.Held.{Same}
+use Rattle.equations.proofs.Vectors.{SameRows}
+use Rattle.inequalities.specs.Inequalities.{deadTests}
+use Rattle.certificate.specs.Verdict.{numberTests}
+use Rattle.certificate.specs.Accepted.{AtEntries, AtRows}
+use Rattle.certificate.specs.Rest.{BlockRead, RestRead, rowsOfBlock, meansBlock, restMeans, restTests}
+use Rattle.certificate.proofs.Accepted.{layout-right}
+use Rattle.certificate.proofs.Blocks.{itself, dead-same, below-same, upper-same, lower-same, mean-same}
+
+-- ---- the numbers of the rest
+
+pub rest-lowers : (s g : ℕ) (d : List ℕ) → Same s g (uppersOf s g (drop (8 * entriesIn s g) d)) (lowersOf s g d)
+unfolding uppersOf lowersOf
+rest-lowers s g d p z q hp hz hq = rest-value d (entriesIn s g) (entryAt s g p z q)
+
+-- The block of mean steps stands where the shape's mean steps start.
+means-block : (s g : ℕ) (h : Shape) (d : List ℕ) → meansBlock s g h (drop (8 * entriesIn s g) d) ≡ drop (8 * meansFrom s g h) d
+unfolding meansBlock meansFrom
+means-block s g h d = go (hasLowers h)
+  where
+    twice : 8 * entriesIn s g + 8 * entriesIn s g ≡ 8 * (entriesIn s g + entriesIn s g)
+    twice = omega arith
+
+    go : (t : Bool) → cond t (drop (8 * entriesIn s g) (drop (8 * entriesIn s g) d)) (drop (8 * entriesIn s g) d)
+        ≡ drop (8 * cond t (entriesIn s g + entriesIn s g) (entriesIn s g)) d
+    go true = drop-drop (8 * entriesIn s g) (8 * entriesIn s g) d ∙ ap (λ n. drop n d) twice
+    go false = refl
+
+pub rest-means : (s g : ℕ) (h : Shape) (d : List ℕ)
+    → SameRows s g (rowsOfBlock g (meansBlock s g h (drop (8 * entriesIn s g) d))) (meansOf s g h d)
+unfolding meansOf
+rest-means s g h d p z hp hz =
+    ap (λ l. valueOf l (rowAt g p z)) (means-block s g h d) ∙ rest-value d (meansFrom s g h) (rowAt g p z)
+
+-- ---- a right layout has its numbers in range
+
+-- Every number below V is that of an entry, and every number below s × g that of a row.
+at-numbers : {s g : ℕ} (P : ℕ → Type 0) → AtEntries s g (λ p z q. P (entryAt s g p z q)) → (e : ℕ) → e < entriesIn s g → P e
+at-numbers {s} {g} P at e h =
+    let (row, q, hrow, hq, here) = row-split (s * g) s e h in
+    let (p, z, hp, hz, there) = row-split s g row hrow in
+    rw (here, there) (at p z q hp hz hq)
+
+at-row-numbers : {s g : ℕ} (P : ℕ → Type 0) → AtRows s g (λ p z. P (rowAt g p z)) → (e : ℕ) → e < rowsIn s g → P e
+at-row-numbers {s} {g} P at e h = let (p, z, hp, hz, here) = row-split s g e h in rw here (at p z hp hz)
+
+-- n records of a file from record `from` on, as a block.
+block-read : (d : List ℕ) (from n a : ℕ) → 8 * (from + n) ≤ length d → ((e : ℕ) → e < n → valueOf d (from + e) ≤ a)
+    → BlockRead (drop (8 * from) d) n a
+block-read d from n a whole most =
+    record { whole = rw (length-drop (8 * from) d) (omega arith); most = λ e h. rw (rest-value d from e) (most e h) }
+
+module _ (s g : ℕ) (d : List ℕ) {h : Shape} (shape : shapeOf s g d ≡ Of h) (layout : first (layoutTests s g h d) ≡ Accepted) where
+  pub uppers-read : BlockRead d (entriesIn s g) 2097152
+  uppers-read =
+      record {
+        whole = uppers-fit s g d h shape;
+        most = at-numbers (λ e. valueOf d e ≤ 2097152) (λ p z q hp hz hq. layout-right s g h d layout .0 p z q hp hz hq .most);
+      }
+
+  pub rest-read : RestRead s g h (drop (8 * entriesIn s g) d)
+  rest-read =
+      record {
+        lowers = λ has. block-read d (entriesIn s g) (entriesIn s g) 2097152 (lowers-fit s g d h shape has)
+            (at-numbers (λ e. valueOf d (entriesIn s g + e) ≤ 2097152) (λ p z q hp hz hq.
+            layout-right s g h d layout .1 .0 has p z q hp hz hq .most));
+        means = λ has. rw (means-block s g h d) (block-read d (meansFrom s g h) (rowsIn s g) 4194304 (means-fit s g d h shape has)
+            (at-row-numbers (λ e. valueOf d (meansFrom s g h + e) ≤ 4194304) (λ p z hp hz.
+            layout-right s g h d layout .1 .1 has p z hp hz .most)));
+      }
+
+-- ---- the tests by the rest
+
+module _ (b : List ℕ) {s g : ℕ} (model : IsModel s g (rulesOf b)) (h : Shape) where
+  pub rest-same : {a a′ u u′ : Vector} (rest : List ℕ) → Same s g a a′ → Same s g u u′
+      → restTests b s g h a u rest ≡ restTests b s g h a′ u′ rest
+  unfolding restTests restMeans
+  rest-same rest marks uppers =
+      rw (
+        dead-same (entriesIn s g) marks (itself (uppersOf s g rest)),
+        upper-same model (hasLowers h) marks uppers,
+        below-same (itself (uppersOf s g rest)) uppers,
+        mean-same model (meansFrom s g h) uppers (λ p z hp hz. refl {a = valueOf (meansBlock s g h rest) (rowAt g p z)}),
+      )
+
+  pub numbers-by-rest : (d : List ℕ) → numberTests b s g h d
+      ≡ deadTests s g (alive (rulesOf b) s g) (uppersOf s g d) 0
+      ++ restTests b s g h (alive (rulesOf b) s g) (uppersOf s g d) (drop (8 * entriesIn s g) d)
+  unfolding numberTests restTests restMeans
+  numbers-by-rest d =
+      rw (
+        dead-same (entriesIn s g) (itself (alive (rulesOf b) s g)) (rest-lowers s g d),
+        below-same (rest-lowers s g d) (itself (uppersOf s g d)),
+        lower-same model (rest-lowers s g d),
+        mean-same model (meansFrom s g h) (itself (uppersOf s g d)) (rest-means s g h d),
+      )

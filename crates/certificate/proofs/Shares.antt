@@ -1,0 +1,51 @@
+-- The margin as the code works it out is the theory's, and an accepted delivery with lowers meets what the code asks for it.
+use Prim.Native.Nat.{ℕ, zero, suc, _^_, _<_, min}
+use native.Mathlib.Omega.{arith}
+use mathlib.Core.Bool.{true}
+use mathlib.Core.List.{List}
+use mathlib.Core.Path.{_≡_, refl, ap, ap₂, _∙_}
+use Rattle.outcome.specs.declared.Outcome.the-variants.{Accepted}
+use Rattle.ppda.specs.Sums.{leastTo}
+use Rattle.ppda.specs.Equations.{entries, f}
+use Rattle.ppda.specs.Live.{alive}
+use Rattle.ppda.specs.Margin.{shareAt, margin}
+use Rattle.ppda.proofs.Marks.{alive-is-bit}
+use Rattle.model.specs.Rules.{rulesOf}
+use Rattle.delivery.specs.declared.shape.Shape.{Shape}
+use Rattle.delivery.specs.declared.shape.Shaped.the-variants.{Of}
+use Rattle.delivery.specs.Shapes.{hasLowers, shapeOf}
+use Rattle.delivery.specs.Numbers.{uppersOf}
+use Rattle.equations.specs.Held.{Sized, Same}
+use Rattle.equations.proofs.Ranges.{sized-model}
+use Rattle.equations.proofs.Vectors.{f-same}
+use Rattle.inequalities.specs.Shares.{Strict, leastShare}
+use Rattle.certificate.specs.Verdict.{verdict}
+use Rattle.certificate.specs.Accepted.{LowersRight}
+use Rattle.certificate.proofs.Accepted.{delivery-accepted, shaped-as}
+
+leastTo-cong : (top : ℕ) (h k : ℕ → ℕ) (n : ℕ) → ((i : ℕ) → i < n → h i ≡ k i) → leastTo top h n ≡ leastTo top k n
+unfolding leastTo
+leastTo-cong top h k zero e = refl
+leastTo-cong top h k (suc n) e = ap₂ min (leastTo-cong top h k n (λ i l. e i (omega arith))) (e n (omega arith))
+
+-- The lists have the live marks of the model and the uppers of the delivery.
+module _ {b : List ℕ} {s g : ℕ} (d a u : List ℕ) (sized : Sized b s g) (marks : Same s g (entries s g a) (alive (rulesOf b) s g))
+    (uppers : Same s g (entries s g u) (uppersOf s g d)) where
+  f-of-uppers : (p z q : ℕ) → q < s
+      → f (rulesOf b) s (2 ^ 20) (entries s g u) p z q ≡ f (rulesOf b) s (2 ^ 20) (uppersOf s g d) p z q
+  f-of-uppers = f-same (sized-model sized) (2 ^ 20) (entries s g u) (uppersOf s g d) uppers
+
+  pub least-share : leastShare b s g a u ≡ margin (rulesOf b) s g (uppersOf s g d)
+  unfolding leastShare margin
+  least-share =
+      leastTo-cong (2 ^ 20) _ _ s (λ p hp. leastTo-cong (2 ^ 20) _ _ g (λ z hz. leastTo-cong (2 ^ 20) _ _ s (λ q hq.
+      ap (λ n. shareAt n (entries s g u p z q) (f (rulesOf b) s (2 ^ 20) (entries s g u) p z q)) (marks p z q hp hz hq)
+      ∙ ap₂ (shareAt (alive (rulesOf b) s g p z q)) (uppers p z q hp hz hq) (f-of-uppers p z q hq))))
+
+  pub strict-of : {h : Shape} → verdict b d ≡ Accepted → shapeOf s g d ≡ Of h → hasLowers h ≡ true → Strict b s g a u
+  strict-of {h} accepted shape has p z q hp hz hq =
+      let x = delivery-accepted b d .0 accepted in
+      let same = shaped-as b d x h (rw (sized .states, sized .symbols) at shape) in
+      let lowers : LowersRight b s g d = rw (sized .states, sized .symbols) (x .delivery .lowers (ap hasLowers same ∙ has)) in
+      rw (marks p z q hp hz hq, uppers p z q hp hz hq, f-of-uppers p z q hq) (λ live.
+      lowers .strict p z q hp hz hq (omega (arith, alive-is-bit (rulesOf b) s g p z q)))

@@ -1,0 +1,100 @@
+-- The margin as the code finds it: one share, and the least value that a loop carries from row to row.
+use Prim.Native.Nat.{ℕ, zero, suc, _+_, _-_, _*_, _/_, _%_, _^_, _≤_, _<_, min}
+use native.Mathlib.Nat.{le-antisymm, le-trans, mod-lt, div-add-mod', mul-div-mul-right}
+use native.Mathlib.Numerals.{add-one}
+use native.Mathlib.Omega.{arith}
+use mathlib.Core.List.{List}
+use mathlib.Core.Path.{_≡_, refl, sym, ap, ap₂, _∙_}
+use lib.Dec.{lit<}
+use Rattle.ppda.specs.Sums.{leastTo}
+use Rattle.ppda.specs.Margin.{share, shareAt}
+use Rattle.ppda.proofs.Sums.{leastTo-le-top, leastTo-le-term, leastTo-greatest}
+use Rattle.model.proofs.Rows.{row-number, row-below}
+use Rattle.delivery.proofs.Walks.{row-of}
+use Rattle.inequalities.specs.Shares.{StrictAt, shareOf, leastShare}
+
+-- ---- one share
+
+-- The code's quotient is the definition's, less a common factor of 2^20.
+pub share-divided : (u y : ℕ) → (u * 2 ^ 36 - y) / (u * 65536) ≡ share u y
+unfolding share
+share-divided u y =
+    sym (mul-div-mul-right {m = 2 ^ 20} (u * 2 ^ 36 - y) (u * 65536) (lit< tt))
+    ∙ ap (λ d. (u * 2 ^ 36 - y) * 2 ^ 20 / d) (omega arith)
+
+pub share-dead : (a u y : ℕ) → a ≡ 0 → 2 ^ 20 ≡ shareAt a u y
+unfolding shareAt
+share-dead a u y e = rw e
+
+pub share-live : (a u y : ℕ) → 0 < a → share u y ≡ shareAt a u y
+unfolding shareAt
+share-live zero u y h = absurd (omega arith)
+share-live (suc a) u y h = refl
+
+-- Equal numbers meet the same condition and have the same part in the margin.
+module _ {a a′ u u′ y y′ : ℕ} (ea : a ≡ a′) (eu : u ≡ u′) (ey : y ≡ y′) where
+  pub strict-found : StrictAt a′ u′ y′ → StrictAt a u y
+  strict-found h = rw (ea, eu, ey) h
+
+  pub share-found : {r : ℕ} → r ≡ shareAt a u y → r ≡ shareAt a′ u′ y′
+  share-found e = e ∙ rw (ea, eu, ey)
+
+-- ---- least values by their last term
+
+pub least-none : (top : ℕ) (h : ℕ → ℕ) → top ≡ leastTo top h 0
+unfolding leastTo
+least-none top h = refl
+
+pub least-more : (top : ℕ) (h : ℕ → ℕ) (n : ℕ) {l x r : ℕ} → l ≡ leastTo top h n → x ≡ h n → r ≡ min l x → r ≡ leastTo top h (n + 1)
+unfolding leastTo
+least-more top h n el ex er = rw (er, el, ex, add-one)
+
+-- A least value from a lower start is the less of that start and the least value from above.
+least-lower : (top r : ℕ) (h : ℕ → ℕ) (n : ℕ) → r ≤ top → leastTo r h n ≡ min r (leastTo top h n)
+unfolding leastTo
+least-lower top r h zero l = omega arith
+least-lower top r h (suc n) l = let e : leastTo r h n ≡ min r (leastTo top h n) = least-lower top r h n l in omega arith
+
+-- ---- over rows
+
+-- The least share of row (p, z), and of the first n rows by their numbers.
+abbrev leastOfRow : List ℕ → ℕ → ℕ → List ℕ → List ℕ → ℕ → ℕ → ℕ
+leastOfRow b s g a u p z = leastTo (2 ^ 20) (shareOf b s g a u p z) s
+
+unfoldable pub leastOfRows : List ℕ → ℕ → ℕ → List ℕ → List ℕ → ℕ → ℕ
+leastOfRows b s g a u n = leastTo (2 ^ 20) (λ k. leastOfRow b s g a u (k / g) (k % g)) n
+
+-- Row number p × g + z is (p, z).
+row-term : (g p z : ℕ) (h : ℕ → ℕ → ℕ) → z < g → h ((p * g + z) / g) ((p * g + z) % g) ≡ h p z
+row-term g p z h l =
+    let k : ℕ = p * g + z in
+    let (state, symbol) = row-number g (k / g) (k % g) p z (mod-lt k (omega arith)) l (div-add-mod' k g) in
+    ap₂ h state symbol
+
+-- Row by row, by state and symbol or by number.
+rows-by-number : (top s g : ℕ) (h : ℕ → ℕ → ℕ) → 0 < g
+    → leastTo top (λ k. h (k / g) (k % g)) (s * g) ≡ leastTo top (λ p. leastTo top (h p) g) s
+rows-by-number top s g h some =
+    le-antisymm
+    (leastTo-greatest top _ s _ (leastTo-le-top top _ (s * g))
+    (λ p lp. leastTo-greatest top _ g _ (leastTo-le-top top _ (s * g))
+    (λ z lz. rw (sym (row-term g p z h lz))
+    (leastTo-le-term top (λ k. h (k / g) (k % g)) (s * g) (p * g + z) (row-below s g p z lp lz)))))
+    (leastTo-greatest top _ (s * g) _ (leastTo-le-top top _ s)
+    (λ k l. let row = row-of s g k some l in
+    le-trans (leastTo-le-term top _ s (k / g) (row .0)) (leastTo-le-term top (h (k / g)) g (k % g) (row .1))))
+
+module _ (b : List ℕ) (s g : ℕ) (a u : List ℕ) where
+  pub rows-none : 2 ^ 20 ≡ leastOfRows b s g a u 0
+  unfolding leastOfRows
+  rows-none = least-none (2 ^ 20) _
+
+  pub rows-more : (n : ℕ) {least next : ℕ} → least ≡ leastOfRows b s g a u n → next ≡ leastTo least (shareOf b s g a u (n / g) (n % g)) s
+      → next ≡ leastOfRows b s g a u (n + 1)
+  unfolding leastOfRows
+  rows-more n {least} e f =
+      least-more (2 ^ 20) _ n e refl (f ∙ least-lower (2 ^ 20) least _ s (rw e (leastTo-le-top (2 ^ 20) _ n)))
+
+  pub rows-all : (n : ℕ) {least : ℕ} → 0 < g → n ≡ s * g → least ≡ leastOfRows b s g a u n → least ≡ leastShare b s g a u
+  unfolding leastOfRows leastShare
+  rows-all n some e f = f ∙ ap (leastTo (2 ^ 20) _) e ∙ rows-by-number (2 ^ 20) s g (leastOfRow b s g a u) some
