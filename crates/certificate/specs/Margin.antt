@@ -11,8 +11,8 @@ use Rattle.delivery.specs.declared.shape.Shaped.{Shaped}
 use Rattle.delivery.specs.declared.shape.Shaped.the-variants.{Of, Unknown}
 use Rattle.delivery.specs.Shapes.{hasLowers, shapeOf}
 use Rattle.delivery.specs.Numbers.{uppersOf}
-use Rattle.certificate.specs.declared.Margin.{Margin}
-use Rattle.certificate.specs.declared.Margin.the-variants.{Shown, Absent}
+use Rattle.certificate.specs.declared.answer.Margin.{Margin}
+use Rattle.certificate.specs.declared.answer.Margin.the-variants.{Shown, Absent}
 use Rattle.certificate.specs.Verdict.{verdict}
 
 -- The margin of the uppers of the delivery d for the model b.

@@ -1,5 +1,6 @@
 // A delivery beside its model, in the field's term a certificate: the verdict 20 to 27, and the margin.
 
+use answer::Margin;
 use delivery::layout;
 use delivery::numbers::values;
 use delivery::shape::Shape;
@@ -16,6 +17,7 @@ use outcome::Outcome;
 use outcome::Reason;
 use outcome::refused;
 
+pub mod answer; // answer.rt: the margin as an answer
 mod numbers; // numbers.rt: the tests 23 to 27, in their order
 
 ghost use mathlib.Core.Path.{_≡_};
@@ -28,12 +30,6 @@ ghost use Rattle.equations.specs.Held.{Sized};
 ghost use Rattle.certificate.specs.Verdict.{shapedTests, verdict};
 ghost use Rattle.certificate.specs.Margin.{marginOf, shownMargin};
 ghost use Rattle.certificate.specs.Shown.{shapeIn};
-
-// The margin that is shown of a delivery, if there is one.
-pub enum Margin {
-    Shown(u64),
-    Absent,
-}
 
 // The tests 21 to 27 of a delivery whose shape is known.
 fn check_shaped(model: &[u8], delivery: &[u8], s: usize, g: usize, shape: Shape) -> Outcome

@@ -1,5 +1,7 @@
 // The margin of a delivery's uppers: the least share over the live entries, in 1/2^20.
 
+use super::SCALE;
+use super::UNIT;
 use delivery::shape::rows;
 use equations::chances::f;
 use equations::chances::value;
@@ -15,7 +17,7 @@ fn share(u: u64, y: u64) -> u64
     requires { ⌜ (0 < u) × (u ≤ 2097152) × (y ≤ u * 2 ^ 36) ⌝ }
     ensures { λ r. ⌜ r ≡ share u y ⌝ }
 {
-    (u * 68719476736 - y) / (u * 65536)
+    (u * UNIT - y) / (u * 65536)
 }
 
 // An entry's part in the margin, by its mark.
@@ -47,7 +49,7 @@ fn least_of_row(
     let mut least = least;
     let mut q = 0;
     while q < s {
-        let y = f(model, starts, uppers, s, g, 1048576, p, z, q);
+        let y = f(model, starts, uppers, s, g, SCALE, p, z, q);
         let share = share_at(value(live, s, g, p, z, q), value(uppers, s, g, p, z, q), y);
         least = if share < least { share } else { least };
         q += 1;

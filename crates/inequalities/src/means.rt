@@ -1,5 +1,6 @@
 // The test 27: mean steps against the right side of their inequality, in 1/2^44 of a step.
 
+use super::UNIT;
 use delivery::shape::rows;
 use equations::steps::mean;
 use equations::steps::mean_side;
@@ -20,7 +21,7 @@ fn check_mean(r: u64, y: u64, place: usize) -> Outcome
     requires { ⌜ (r ≤ 4194304) × (y < 2 ^ 63) ⌝ }
     ensures { λ o. ⌜ o ≡ first (meanTest r y place ∷ []) ⌝ }
 {
-    let have = r * 68719476736;
+    let have = r * UNIT;
     if have < y {
         return Outcome::Refused {
             reason: Reason::MeanTooSmall,

@@ -1,5 +1,7 @@
 // The tests 24 and 26: a number against f at its entry, in 1/2^56.
 
+use super::SCALE;
+use super::UNIT;
 use delivery::shape::rows;
 use equations::chances::f;
 use equations::chances::value;
@@ -28,7 +30,7 @@ fn check_upper(strict: bool, live: u64, u: u64, y: u64, place: usize) -> Outcome
     requires { ⌜ (u ≤ 2097152) × (y ≤ 2 ^ 61) ⌝ }
     ensures { λ r. ⌜ r ≡ first (upperTest strict live u y place ∷ []) ⌝ }
 {
-    let have = u * 68719476736;
+    let have = u * UNIT;
     if (have < y) | (strict & ((live == 1) & (have <= y))) {
         return Outcome::Refused {
             reason: Reason::UpperTooSmall,
@@ -44,7 +46,7 @@ fn check_lower(l: u64, y: u64, place: usize) -> Outcome
     requires { ⌜ (l ≤ 2097152) × (y ≤ 2 ^ 61) ⌝ }
     ensures { λ r. ⌜ r ≡ first (lowerTest l y place ∷ []) ⌝ }
 {
-    let need = l * 68719476736;
+    let need = l * UNIT;
     if y < need {
         return Outcome::Refused {
             reason: Reason::LowerTooLarge,
@@ -86,7 +88,7 @@ fn check_row(
     let at = row_number(p, g, z) * s;
     let mut q = 0;
     while q < s {
-        let y = f(model, starts, values, s, g, 1048576, p, z, q);
+        let y = f(model, starts, values, s, g, SCALE, p, z, q);
         let found = check_side(
             side,
             value(live, s, g, p, z, q),
