@@ -1,7 +1,7 @@
 -- Every starred edge of document 01 holds.
 use Prim.Native.Nat.{ℕ, _<_}
 use native.Mathlib.Omega.{arith}
-use mathlib.Core.List.{List}
+use mathlib.Core.List.{List, map}
 use lib.Dec.{lit<}
 use mathlib.Core.Path.{_≡_, refl}
 use Rattle.outcome.specs.declared.Outcome.the-variants.{Accepted}
@@ -25,7 +25,7 @@ use Rattle.delivery.specs.Layout.{eachEntry, eachRow, isDue, inRange, upperReco
 use Rattle.inequalities.specs.Inequalities.{deadTest, upperTest, belowTest, lowerTest, meanTest, deadTests, upperTests, belowTests, lowerTests, meanTests}
 use Rattle.certificate.specs.Verdict.{numberTests, shapedTests, deliveryTests}
 use Rattle.certificate.specs.Margin.{marginOf}
-use Rattle.certificate.specs.Edges.{zToZ, AllHold, edges}
+use Rattle.certificate.specs.Edges.{zToZ, AllHold, edges, badInputs}
 use Rattle.ppda.proofs.Live.{live-by-rounds}
 use Rattle.model.proofs.Accepted.{model-accepted, is-model}
 
@@ -76,3 +76,8 @@ edges-hold = (
     ),
   ),
 )
+
+-- Bad input gets the outcome that is due, by computation.
+pub bad-inputs-refused : map (λ c. verdict.verdict (c .model) (c .delivery)) badInputs ≡ map (λ c. c .due) badInputs
+unfolding first each wordAt sign sum sumTo leastTo fits overRow f meanSide mark alive share shareAt margin recordsOf field weight greatestTo statesOf symbolsOf ruleOf listTo rulesOf rowOf rowSum wholeRecords rangeAt unusedAt weightAt ascends recordTests rowTests modelTests modelVerdict byteOf valueOf meansFrom recordsIn longAs lowersOrMeans shapeOf uppersOf lowersOf meansOf eachEntry eachRow isDue inRange layout.recordTests deadTest upperTest belowTest lowerTest meanTest upperRecords lowerRecords meanRecords deadTests upperTests belowTests lowerTests meanTests layoutTests numberTests shapedTests deliveryTests verdict.verdict marginOf
+bad-inputs-refused = refl

@@ -1,11 +1,13 @@
--- The starred edges of document 01 ("Edges"), as one table of cases over the definitions.
+-- The starred edges of document 01 ("Edges"), as one table of cases over the definitions; and a second table, of bad input.
 use Prim.Native.Nat.{ℕ, _/_, _%_, _^_}
 use mathlib.Core.List.{List, [], _∷_, _++_}
 use mathlib.Core.Path.{_≡_}
 use lib.IntN.{pos, negsuc}
+use lib.ListN.{take}
 use Rattle.outcome.specs.declared.Outcome.{Outcome}
 use Rattle.outcome.specs.declared.Outcome.the-variants.{Accepted, Refused}
-use Rattle.outcome.specs.declared.Reason.the-variants.{UpperTooSmall, LowerAboveUpper, MeanTooSmall}
+use Rattle.outcome.specs.declared.Reason.{Reason}
+use Rattle.outcome.specs.declared.Reason.the-variants.{ModelLength, OutOfRange, UnusedNotZero, WeightOutOfRange, NotAscending, RowSumWrong, NoShape, NotDue, ValueOutOfRange, DeadNotZero, UpperTooSmall, LowerAboveUpper, LowerTooLarge, MeanTooSmall}
 use Rattle.ppda.specs.Live.{Live}
 use Rattle.model.specs.Rules.{rulesOf}
 use Rattle.model.specs.W.{wFile}
@@ -74,4 +76,67 @@ edges =
     ∷ case (oneState 32768 32768) (line 85 0 0 0 1048576) (verdictIs Accepted)
     ∷ case (oneState 16384 49152) (line 85 0 0 0 524288 ++ line 76 0 0 0 1048576) (verdictIs (Refused LowerAboveUpper 1 (pos 0)))
     ∷ case zToZ [] (isDead 0 0 0)
+    ∷ []
+
+-- Model records: p Z q L Y X and the weight.
+abbrev pub rule : ℕ → ℕ → ℕ → ℕ → ℕ → ℕ → ℕ → List ℕ
+rule p z q l y x k = p ∷ z ∷ q ∷ l ∷ y ∷ x ∷ fourBytes k
+
+-- One state and one symbol: a record that pushes nothing, with this weight.
+abbrev pub oneRule : ℕ → List ℕ
+oneRule k = rule 0 0 0 0 0 0 k
+
+-- Two files and the outcome that is due.
+pub record Input : Type 0 where
+  pub model : List ℕ
+  pub delivery : List ℕ
+  pub due : Outcome
+
+abbrev pub input : List ℕ → List ℕ → Outcome → Input
+input b d o = record { model = b; delivery = d; due = o }
+
+-- A refusal that misses no inequality.
+abbrev pub refusedAt : Reason → ℕ → Outcome
+refusedAt r i = Refused r i (pos 0)
+
+-- Bad input: each reason of the files with its place. Lengths: none, a byte short, a byte long. Each number of a model record out of range,
+-- unused symbols, weights, order, a row's sum. Lengths of a delivery, each byte of a record, values, the shapes of one state, a dead entry.
+abbrev pub badInputs : List Input
+badInputs =
+    input [] [] (refusedAt ModelLength 0)
+    ∷ input (take 39 wFile) [] (refusedAt ModelLength 0)
+    ∷ input (wFile ++ (0 ∷ [])) [] (refusedAt ModelLength 0)
+    ∷ input (rule 8 0 0 0 0 0 65536) [] (refusedAt OutOfRange 0)
+    ∷ input (rule 0 16 0 0 0 0 65536) [] (refusedAt OutOfRange 0)
+    ∷ input (rule 0 0 8 0 0 0 65536) [] (refusedAt OutOfRange 0)
+    ∷ input (rule 0 0 0 3 0 0 65536) [] (refusedAt OutOfRange 0)
+    ∷ input (rule 0 0 0 2 16 0 65536) [] (refusedAt OutOfRange 0)
+    ∷ input (rule 0 0 0 2 0 16 65536) [] (refusedAt OutOfRange 0)
+    ∷ input (rule 0 0 0 0 16 1 0) [] (refusedAt OutOfRange 0)
+    ∷ input (rule 0 0 0 0 1 0 65536) [] (refusedAt UnusedNotZero 0)
+    ∷ input (rule 0 0 0 1 0 1 65536) [] (refusedAt UnusedNotZero 0)
+    ∷ input (oneRule 0) [] (refusedAt WeightOutOfRange 0)
+    ∷ input (oneRule 65537) [] (refusedAt WeightOutOfRange 0)
+    ∷ input (oneRule 32768 ++ oneRule 32768) [] (refusedAt NotAscending 1)
+    ∷ input (rule 0 0 0 1 0 0 32768 ++ oneRule 32768) [] (refusedAt NotAscending 1)
+    ∷ input (oneRule 65535) [] (refusedAt RowSumWrong 0)
+    ∷ input (oneRule 65536 ++ rule 0 1 0 0 0 0 65535) [] (refusedAt RowSumWrong 1)
+    ∷ input (oneRule 65536) [] (refusedAt NoShape 0)
+    ∷ input (oneRule 65536) (take 7 (line 85 0 0 0 1048576)) (refusedAt NoShape 0)
+    ∷ input (oneRule 65536) (line 85 0 0 0 1048576 ++ (0 ∷ [])) (refusedAt NoShape 0)
+    ∷ input (oneRule 65536) (line 76 0 0 0 1048576) (refusedAt NotDue 0)
+    ∷ input (oneRule 65536) (line 85 1 0 0 1048576) (refusedAt NotDue 0)
+    ∷ input (oneRule 65536) (line 85 0 1 0 1048576) (refusedAt NotDue 0)
+    ∷ input (oneRule 65536) (line 85 0 0 1 1048576) (refusedAt NotDue 0)
+    ∷ input (oneRule 65536) (line 85 0 0 0 2097152) Accepted
+    ∷ input (oneRule 65536) (line 85 0 0 0 2097153) (refusedAt ValueOutOfRange 0)
+    ∷ input (oneRule 65536) (line 85 0 0 0 1048577 ++ line 76 0 0 0 2097153) (refusedAt ValueOutOfRange 1)
+    ∷ input (oneRule 65536) (line 85 0 0 0 1048577 ++ line 76 0 0 0 256) Accepted
+    ∷ input (oneRule 65536) (line 85 0 0 0 1048577 ++ line 82 0 0 0 255) (refusedAt ValueOutOfRange 1)
+    ∷ input (oneRule 65536) (line 85 0 0 0 1048577 ++ line 82 0 0 0 256) Accepted
+    ∷ input (oneRule 65536) (line 85 0 0 0 1048577 ++ line 82 0 0 0 4194305) (refusedAt ValueOutOfRange 1)
+    ∷ input (oneRule 65536) (line 85 0 0 0 1048577 ++ line 0 0 0 0 256) (refusedAt NotDue 1)
+    ∷ input zToZ (line 85 0 0 0 1) (refusedAt DeadNotZero 0)
+    ∷ input zToZ (line 85 0 0 0 0 ++ line 76 0 0 0 1) (refusedAt DeadNotZero 1)
+    ∷ input (oneRule 65536) (line 85 0 0 0 1048577 ++ line 76 0 0 0 1048577) (Refused LowerTooLarge 1 (negsuc 68719476735))
     ∷ []
