@@ -5,3 +5,4 @@ pub mod Edges
 pub mod Blocks
 pub mod Rest
 pub mod Shares
+pub mod Steps

@@ -59,7 +59,7 @@ rest-means s g h d p z hp hz =
 -- ---- a right layout has its numbers in range
 
 -- Every number below V is that of an entry, and every number below s × g that of a row.
-at-numbers : {s g : ℕ} (P : ℕ → Type 0) → AtEntries s g (λ p z q. P (entryAt s g p z q)) → (e : ℕ) → e < entriesIn s g → P e
+pub at-numbers : {s g : ℕ} (P : ℕ → Type 0) → AtEntries s g (λ p z q. P (entryAt s g p z q)) → (e : ℕ) → e < entriesIn s g → P e
 at-numbers {s} {g} P at e h =
     let (row, q, hrow, hq, here) = row-split (s * g) s e h in
     let (p, z, hp, hz, there) = row-split s g row hrow in

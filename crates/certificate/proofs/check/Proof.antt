@@ -1,65 +1,69 @@
+-- `check`: the model is tested first, then the delivery by its shape.
+use mathlib.Core.Path.{sym, _∙_}
+use denote.Ref.{now}
 use borrow.Author.Needs.{needs}
+use Rattle.equations.specs.Held.{Sized}
+use Rattle.equations.proofs.Shown.{sized-of}
+use Rattle.certificate.proofs.Steps.{some-and-few, model-decides, delivery-decides, no-shape}
 use Rattle.certificate.proofs.check.Statement.{statement}
 use Rattle.certificate.proofs.check.Tie as tie
-use Rattle.certificate.proofs.check.Reads as reads
-use Rattle.certificate.proofs.check.Lts as lts
-use Rattle.certificate.proofs.check_shaped.Reads as check-shaped-reads
-use Rattle.delivery.proofs.shape.shape_of.Reads as shape-of-reads
-use Rattle.model.proofs.check.Reads as check-reads
-use Rattle.model.proofs.sizes.states.Reads as states-reads
-use Rattle.model.proofs.sizes.symbols.Reads as symbols-reads
-use Rattle.outcome.proofs.refused.Reads as refused-reads
 
--- src/lib.rt:50:9
+-- Past the first test the model is accepted.
+sized : (c : tie.After-symbols) → let args = c .before .before .before .before .before .before .before .args in
+    Sized (now (args .model)) (c .before .states .result) (c .symbols .result)
+sized c =
+    sized-of (sym (c .before .before .before .before .check .ensures) ∙ c .before .before .enum-told2 .given .1)
+    (c .before .states .ensures .0) (c .symbols .ensures .0)
+
 check-requires : tie.Need-check-requires
 check-requires c κs = search needs
 
--- src/lib.rt:52:9
 enum-told : tie.Need-enum-told
 enum-told c = search needs
 
--- src/lib.rt:52:9
 returns : tie.Need-returns
-returns c = ?
+returns c = model-decides _ _ _ (c .before .before .check .ensures) (c .enum-told .given .1)
 
 enum-told-2 : tie.Need-enum-told-2
 enum-told-2 c = search needs
 
--- src/lib.rt:54:9
 states-requires : tie.Need-states-requires
 states-requires c κs = search needs
 
--- src/lib.rt:55:9
 symbols-requires : tie.Need-symbols-requires
 symbols-requires c κs = search needs
 
--- src/lib.rt:56:11
 shape-of-requires : tie.Need-shape-of-requires
-shape-of-requires c κs = ?
+shape-of-requires c κs = some-and-few (sized c)
 
--- src/lib.rt:57:20
 enum-known-shape : tie.Need-enum-known-shape
 enum-known-shape c = search needs
 
--- src/lib.rt:57:30
 check-shaped-requires : tie.Need-check-shaped-requires
-check-shaped-requires c κs = ?
+check-shaped-requires c κs =
+    let shape = c .before in
+    (sized (shape .before .before .before), sym (shape .before .before .shape-of .ensures) ∙ shape .shape .given .1)
 
--- src/lib.rt:58:36
 enum-told-3 : tie.Need-enum-told-3
 enum-told-3 c = search needs
 
--- src/lib.rt:58:28
 refused-requires : tie.Need-refused-requires
 refused-requires c κs = search needs
 
--- src/lib.rt:47:1
 returns-2 : tie.Need-returns-2
-returns-2 c = ?
+returns-2 c =
+    let shape = c .before .before in
+    let symbols = shape .before .before .before in
+    delivery-decides _ _ _ _ (symbols .before .before .before .before .check .ensures) (symbols .before .before .enum-told2 .given .1)
+    (symbols .before .states .ensures .0) (symbols .symbols .ensures .0)
+    (sym (shape .shape .given .1) ∙ shape .before .before .shape-of .ensures) (c .check-shaped .ensures)
 
--- src/lib.rt:47:1
 returns-3 : tie.Need-returns-3
-returns-3 c = ?
+returns-3 c =
+    let symbols = c .before .before .before .before in
+    delivery-decides _ _ _ _ (symbols .before .before .before .before .check .ensures) (symbols .before .before .enum-told2 .given .1)
+    (symbols .before .states .ensures .0) (symbols .symbols .ensures .0)
+    (sym (c .before .enum-told3 .given .1) ∙ c .before .before .before .shape-of .ensures) (c .refused .ensures ∙ no-shape _ _ _ _)
 
 pub check-spec : {M : Type 1} → statement M
 check-spec =

@@ -1,33 +1,36 @@
+-- `check_shaped`: the layout is tested first, then the numbers, and the first part that refuses decides.
+use mathlib.Core.Path.{sym, _∙_}
 use borrow.Author.Needs.{needs}
+use Rattle.outcome.proofs.Tests.{first-refused, first-rest}
+use Rattle.certificate.specs.Verdict.{shapedTests}
+use Rattle.certificate.proofs.Steps.{some-and-few}
 use Rattle.certificate.proofs.check_shaped.Statement.{statement}
 use Rattle.certificate.proofs.check_shaped.Tie as tie
-use Rattle.certificate.proofs.check_shaped.Reads as reads
-use Rattle.certificate.proofs.check_shaped.Lts as lts
-use Rattle.certificate.proofs.numbers.check.Reads as numbers-check-reads
-use Rattle.delivery.proofs.layout.check.Reads as layout-check-reads
 
--- src/lib.rt:39:9
 check-requires : tie.Need-check-requires
-check-requires c κs = ?
+check-requires c κs =
+    let pre = c .before .before .pre in
+    let sizes = some-and-few (pre .0) in
+    (pre .1, sizes .0, sizes .1, sizes .2, sizes .3)
 
--- src/lib.rt:41:9
 enum-told : tie.Need-enum-told
 enum-told c = search needs
 
--- src/lib.rt:41:9
 returns : tie.Need-returns
-returns c = ?
+unfolding shapedTests
+returns c = first-refused _ _ _ (c .before .before .check .ensures) (c .enum-told .given .1)
 
 enum-told-2 : tie.Need-enum-told-2
 enum-told-2 c = search needs
 
--- src/lib.rt:43:5
 check-requires-2 : tie.Need-check-requires-2
-check-requires-2 c κs = ?
+check-requires-2 c κs =
+    let pre = c .before .before .before .before .before .pre in
+    (pre .0, pre .1, sym (c .before .before .check .ensures) ∙ c .enum-told2 .given .1)
 
--- src/lib.rt:35:1
 returns-2 : tie.Need-returns-2
-returns-2 c = ?
+unfolding shapedTests
+returns-2 c = first-rest _ _ _ _ (c .before .before .before .check .ensures) (c .before .enum-told2 .given .1) (c .check2 .ensures)
 
 pub check-shaped-spec : {M : Type 1} → statement M
 check-shaped-spec =

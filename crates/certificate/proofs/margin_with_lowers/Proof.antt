@@ -1,37 +1,41 @@
+-- `margin_with_lowers`: the live marks and the uppers of an accepted delivery with lowers are what `margin_of` asks for.
+use native.Mathlib.Omega.{arith}
 use borrow.Author.Needs.{needs}
+use Rattle.delivery.proofs.Shapes.{uppers-fit}
+use Rattle.certificate.proofs.Steps.{few, accepted-in-range, accepted-strict, margin-found}
 use Rattle.certificate.proofs.margin_with_lowers.Statement.{statement}
 use Rattle.certificate.proofs.margin_with_lowers.Tie as tie
-use Rattle.certificate.proofs.margin_with_lowers.Reads as reads
-use Rattle.certificate.proofs.margin_with_lowers.Lts as lts
-use Rattle.delivery.proofs.numbers.values.Reads as values-reads
-use Rattle.delivery.proofs.shape.entries.Reads as entries-reads
-use Rattle.equations.proofs.live.marks.Reads as marks-reads
-use Rattle.equations.proofs.rows.starts.Reads as starts-reads
-use Rattle.inequalities.proofs.margin.margin_of.Reads as margin-of-reads
 
--- src/lib.rt:78:18
 starts-requires : tie.Need-starts-requires
 starts-requires c κs = search needs
 
--- src/lib.rt:79:16
 marks-requires : tie.Need-marks-requires
 marks-requires c κs = search needs
 
--- src/lib.rt:80:35
 entries-requires : tie.Need-entries-requires
-entries-requires c κs = ?
+entries-requires c κs = few (c .before .before .before .before .before .pre .0)
 
--- src/lib.rt:80:18
 values-requires : tie.Need-values-requires
-values-requires c κs = ?
+values-requires c κs = omega (arith, uppers-fit _ _ _ _ (c .before .before .before .before .before .before .pre .1))
 
--- src/lib.rt:81:5
 margin-of-requires : tie.Need-margin-of-requires
-margin-of-requires c κs = ?
+margin-of-requires c κs =
+    let pre = c .before .before .before .before .before .before .before .before .before .before .pre in
+    let marks = c .before .before .before .before .before .marks in
+    let e = c .before .before .before .before .entries .ensures .0 in
+    let values = c .before .before .before .values .ensures in (
+      pre .0,
+      c .before .before .before .before .before .before .before .starts .ensures,
+      accepted-in-range (pre .0) (pre .3) e values,
+      accepted-strict (pre .0) _ (marks .result) e (marks .ensures .1) values (pre .3) (pre .1) (pre .2),
+    )
 
--- src/lib.rt:74:1
 returns : tie.Need-returns
-returns c = ?
+returns c =
+    let sized = c .before .before .before .before .before .before .before .before .before .before .before .pre .0 in
+    let marks = c .before .before .before .before .before .before .marks in
+    let e = c .before .before .before .before .before .entries .ensures .0 in
+    margin-found sized _ (marks .result) e (marks .ensures .1) (c .before .before .before .before .values .ensures) (c .margin-of .ensures)
 
 pub margin-with-lowers-spec : {M : Type 1} → statement M
 margin-with-lowers-spec =

@@ -1,43 +1,43 @@
+-- `shape`: a refused model gives no shape, and an accepted one that of the delivery.
+use mathlib.Core.Path.{_≡_, sym, _∙_}
+use denote.Ref.{now}
 use borrow.Author.Needs.{needs}
+use Rattle.outcome.specs.declared.Outcome.the-variants.{Accepted}
+use Rattle.model.specs.Verdict.{modelVerdict}
+use Rattle.equations.proofs.Shown.{sized-of}
+use Rattle.certificate.proofs.Steps.{some-and-few, shape-of-refused, shape-of-accepted}
 use Rattle.certificate.proofs.shape.Statement.{statement}
 use Rattle.certificate.proofs.shape.Tie as tie
-use Rattle.certificate.proofs.shape.Reads as reads
-use Rattle.certificate.proofs.shape.Lts as lts
-use Rattle.delivery.proofs.shape.shape_of.Reads as shape-of-reads
-use Rattle.model.proofs.check.Reads as check-reads
-use Rattle.model.proofs.sizes.states.Reads as states-reads
-use Rattle.model.proofs.sizes.symbols.Reads as symbols-reads
 
--- src/lib.rt:66:9
+-- Past the first test the model is accepted.
+accepted : (c : tie.After-enum-told2) → modelVerdict (now (c .before .before .before .before .before .args .model)) ≡ Accepted
+accepted c = sym (c .before .before .check .ensures) ∙ c .enum-told2 .given .1
+
 check-requires : tie.Need-check-requires
 check-requires c κs = search needs
 
--- src/lib.rt:68:9
 enum-told : tie.Need-enum-told
 enum-told c = search needs
 
--- src/lib.rt:68:9
 returns : tie.Need-returns
-returns c = ?
+returns c = shape-of-refused _ _ (sym (c .before .before .check .ensures) ∙ c .enum-told .given .1)
 
 enum-told-2 : tie.Need-enum-told-2
 enum-told-2 c = search needs
 
--- src/lib.rt:70:24
 states-requires : tie.Need-states-requires
 states-requires c κs = search needs
 
--- src/lib.rt:70:39
 symbols-requires : tie.Need-symbols-requires
 symbols-requires c κs = search needs
 
--- src/lib.rt:70:5
 shape-of-requires : tie.Need-shape-of-requires
-shape-of-requires c κs = ?
+shape-of-requires c κs = some-and-few (sized-of (accepted (c .before .before)) (c .before .states .ensures .0) (c .symbols .ensures .0))
 
--- src/lib.rt:63:1
 returns-2 : tie.Need-returns-2
-returns-2 c = ?
+returns-2 c =
+    shape-of-accepted _ _ (accepted (c .before .before .before)) (c .before .before .states .ensures .0) (c .before .symbols .ensures .0)
+    (c .shape-of .ensures)
 
 pub shape-spec : {M : Type 1} → statement M
 shape-spec =

@@ -1,69 +1,70 @@
+-- `check`: dead uppers are tested first, then the rest of the file, from record V on, and the first part that refuses decides.
+use native.Mathlib.Omega.{arith}
 use borrow.Author.Needs.{needs}
+use Rattle.delivery.proofs.Shapes.{uppers-fit}
+use Rattle.certificate.proofs.Steps.{few, uppers-in-range, rest-in-range, dead-uppers-decide, rest-decides}
 use Rattle.certificate.proofs.numbers.check.Statement.{statement}
 use Rattle.certificate.proofs.numbers.check.Tie as tie
-use Rattle.certificate.proofs.numbers.check.Reads as reads
-use Rattle.certificate.proofs.numbers.check.Lts as lts
-use Rattle.certificate.proofs.numbers.check_rest.Reads as check-rest-reads
-use Rattle.delivery.proofs.numbers.values.Reads as values-reads
-use Rattle.delivery.proofs.shape.entries.Reads as entries-reads
-use Rattle.equations.proofs.live.marks.Reads as marks-reads
-use Rattle.equations.proofs.rows.starts.Reads as starts-reads
-use Rattle.inequalities.proofs.marks.check_dead.Reads as check-dead-reads
 
--- src/numbers.rt:169:9
 entries-requires : tie.Need-entries-requires
-entries-requires c κs = ?
+entries-requires c κs = few (c .before .before .pre .0)
 
--- src/numbers.rt:170:18
 starts-requires : tie.Need-starts-requires
 starts-requires c κs = search needs
 
--- src/numbers.rt:171:16
 marks-requires : tie.Need-marks-requires
 marks-requires c κs = search needs
 
--- src/numbers.rt:172:18
 values-requires : tie.Need-values-requires
-values-requires c κs = ?
+values-requires c κs = omega (arith, uppers-fit _ _ _ _ (c .before .before .before .before .before .before .pre .1))
 
--- src/numbers.rt:173:26
 mul-rest : tie.Need-mul-rest
 mul-rest c = search needs
 
--- src/numbers.rt:173:16
 sub-rest : tie.Need-sub-rest
-sub-rest c = ?
+sub-rest c = omega (arith, uppers-fit _ _ _ _ (c .before .before .before .before .before .before .before .pre .1))
 
--- src/numbers.rt:173:16
 part-rest-start : tie.Need-part-rest-start
-part-rest-start c = ?
+part-rest-start c = omega (arith, uppers-fit _ _ _ _ (c .before .before .before .before .before .before .before .pre .1))
 
--- src/numbers.rt:173:16
 part-rest-end : tie.Need-part-rest-end
 part-rest-end c = search needs
 
--- src/numbers.rt:174:9
 check-dead-requires : tie.Need-check-dead-requires
 check-dead-requires c κs = search needs
 
--- src/numbers.rt:176:9
 enum-told : tie.Need-enum-told
 enum-told c = search needs
 
--- src/numbers.rt:176:9
 returns : tie.Need-returns
-returns c = ?
+returns c =
+    let values = c .before .before .before .before .before .before in
+    let marks = values .before .marks in
+    let e = values .before .before .before .before .entries .ensures .0 in
+    let sized = values .before .before .before .before .before .before .before .pre .0 in
+    dead-uppers-decide sized _ _ (marks .result) e (marks .ensures .1) (values .values .ensures)
+    _ (c .before .before .check-dead .ensures) (c .enum-told .given .1)
 
 enum-told-2 : tie.Need-enum-told-2
 enum-told-2 c = search needs
 
--- src/numbers.rt:178:5
 check-rest-requires : tie.Need-check-rest-requires
-check-rest-requires c κs = ?
+check-rest-requires c κs =
+    let values = c .before .before .before .before .before .before .before .before .before in
+    let pre = values .before .before .before .before .before .before .before .pre in
+    let e = values .before .before .before .before .entries .ensures .0 in
+    let uppers = uppers-in-range _ _ _ (pre .1) (pre .2) e (values .values .ensures) in
+    (pre .0, values .before .before .before .starts .ensures, uppers, rest-in-range _ _ _ (pre .1) (pre .2) e)
 
--- src/numbers.rt:165:1
 returns-2 : tie.Need-returns-2
-returns-2 c = ?
+returns-2 c =
+    let values = c .before .before .before .before .before .before .before .before .before .before in
+    let marks = values .before .marks in
+    let e = values .before .before .before .before .entries .ensures .0 in
+    let sized = values .before .before .before .before .before .before .before .pre .0 in
+    let dead = c .before .before .before .before .before .before .check-dead .ensures in
+    rest-decides sized _ _ (marks .result) e (marks .ensures .1) (values .values .ensures) _ _
+    dead (c .before .before .before .before .enum-told2 .given .1) (c .check-rest .ensures)
 
 pub check-spec : {M : Type 1} → statement M
 check-spec =

@@ -1,27 +1,28 @@
+-- `check_block_of_means`: the mean steps are the values of the block, one for each row.
+use denote.Ref.{now}
 use borrow.Author.Needs.{needs}
+use Rattle.certificate.proofs.Blocks.{values-most}
+use Rattle.certificate.proofs.Steps.{few, means-found}
 use Rattle.certificate.proofs.numbers.check_block_of_means.Statement.{statement}
 use Rattle.certificate.proofs.numbers.check_block_of_means.Tie as tie
-use Rattle.certificate.proofs.numbers.check_block_of_means.Reads as reads
-use Rattle.certificate.proofs.numbers.check_block_of_means.Lts as lts
-use Rattle.delivery.proofs.numbers.values.Reads as values-reads
-use Rattle.delivery.proofs.shape.rows.Reads as rows-reads
-use Rattle.inequalities.proofs.means.check.Reads as check-reads
 
--- src/numbers.rt:106:31
 rows-requires : tie.Need-rows-requires
-rows-requires c κs = ?
+rows-requires c κs = few (c .before .before .pre .0)
 
--- src/numbers.rt:106:17
 values-requires : tie.Need-values-requires
 values-requires c κs = search needs
 
--- src/numbers.rt:107:5
 check-requires : tie.Need-check-requires
-check-requires c κs = ?
+check-requires c κs =
+    let pre = c .before .before .before .before .before .pre in
+    let values = rw (c .before .before .rows .ensures .0) at (c .before .values .ensures) in
+    (pre .0, pre .1, pre .2, values-most values (pre .3 .most), pre .4)
 
--- src/numbers.rt:94:1
 returns : tie.Need-returns
-returns c = ?
+returns c =
+    let start = c .before .before .before .before .before .before in
+    means-found (start .pre .0) (c .before .before .before .rows .ensures .0) (c .before .before .values .ensures)
+    (now (start .args .uppers)) _ _ (c .check .ensures)
 
 pub check-block-of-means-spec : {M : Type 1} → statement M
 check-block-of-means-spec =

@@ -1,47 +1,62 @@
+-- `check_lowers`: the lowers are the values of the first V records of the rest. 25 is tested first, then 26, and where no lowers stand
+-- nothing is tested.
+use native.Mathlib.Omega.{arith}
+use mathlib.Core.Bool.{true}
+use mathlib.Core.Path.{_≡_, sym}
+use denote.Ref.{now}
+use borrow.Author.Tests.{not-true, not-false}
 use borrow.Author.Needs.{needs}
+use Rattle.outcome.proofs.Tests.{first-empty}
+use Rattle.certificate.proofs.Blocks.{values-most}
+use Rattle.certificate.proofs.Steps.{few, below-refused, lower-found}
 use Rattle.certificate.proofs.numbers.check_lowers.Statement.{statement}
 use Rattle.certificate.proofs.numbers.check_lowers.Tie as tie
-use Rattle.certificate.proofs.numbers.check_lowers.Reads as reads
-use Rattle.certificate.proofs.numbers.check_lowers.Lts as lts
-use Rattle.delivery.proofs.numbers.values.Reads as values-reads
-use Rattle.delivery.proofs.shape.entries.Reads as entries-reads
-use Rattle.inequalities.proofs.marks.check_below.Reads as check-below-reads
-use Rattle.inequalities.proofs.sides.check.Reads as check-reads
 
--- src/numbers.rt:82:9
+-- Past the first test the lowers stand.
+stand : (c : tie.Else1) → c .before .before .before .args .lowers ≡ true
+stand c = not-false _ (c .if1 .left)
+
 returns : tie.Need-returns
-returns c = ?
+returns c = rw (not-true (c .before .before .before .args .lowers) (c .if1 .taken)) (sym first-empty)
 
--- src/numbers.rt:84:9
 entries-requires : tie.Need-entries-requires
-entries-requires c κs = ?
+entries-requires c κs = few (c .before .before .before .pre .0)
 
--- src/numbers.rt:85:18
 values-requires : tie.Need-values-requires
-values-requires c κs = ?
+values-requires c κs = omega (arith, c .before .before .before .before .pre .3 (stand (c .before)) .whole)
 
--- src/numbers.rt:86:9
 check-below-requires : tie.Need-check-below-requires
 check-below-requires c κs = search needs
 
--- src/numbers.rt:88:9
 enum-told : tie.Need-enum-told
 enum-told c = search needs
 
--- src/numbers.rt:88:9
 returns-2 : tie.Need-returns-2
-returns-2 c = ?
+returns-2 c =
+    let entries = c .before .before .before .before .before in
+    let args = entries .before .before .before .before .args in
+    below-refused _ _ (entries .entries .ensures .0) (c .before .before .before .before .values .ensures)
+    (args .lowers) (stand (entries .before))
+    _ (now (args .uppers)) _ (c .before .before .check-below .ensures) (c .enum-told .given .1)
 
 enum-told-2 : tie.Need-enum-told-2
 enum-told-2 c = search needs
 
--- src/numbers.rt:90:5
 check-requires : tie.Need-check-requires
-check-requires c κs = ?
+check-requires c κs =
+    let entries = c .before .before .before .before .before .before in
+    let pre = entries .before .before .before .before .pre in
+    let values = rw (entries .entries .ensures .0) at (c .before .before .before .before .before .values .ensures) in
+    (pre .0, pre .1, values-most values (pre .3 (stand (entries .before)) .most), entries .entries .ensures .1)
 
--- src/numbers.rt:68:1
 returns-3 : tie.Need-returns-3
-returns-3 c = ?
+returns-3 c =
+    let entries = c .before .before .before .before .before .before .before in
+    let start = entries .before .before .before .before in
+    lower-found _ _ (entries .entries .ensures .0) (c .before .before .before .before .before .before .values .ensures)
+    (start .args .lowers) (stand (entries .before))
+    (start .pre .0) (now (start .args .live)) (now (start .args .uppers)) _ _
+    (c .before .before .before .before .check-below .ensures) (c .before .before .enum-told2 .given .1) (c .check .ensures)
 
 pub check-lowers-spec : {M : Type 1} → statement M
 check-lowers-spec =

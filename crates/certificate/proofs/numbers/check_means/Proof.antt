@@ -1,64 +1,77 @@
+-- `check_means`: the mean steps stand after the lowers, or at once where there are none, and where no mean steps stand nothing is tested.
+use native.Mathlib.Omega.{arith}
+use mathlib.Core.Bool.{true}
+use mathlib.Core.Path.{_≡_, sym, _∙_}
+use denote.Ref.{now}
+use borrow.Author.Tests.{not-true, not-false}
 use borrow.Author.Needs.{needs}
+use Rattle.delivery.specs.Shapes.{hasLowers, hasMeans}
+use Rattle.certificate.proofs.Steps.{few, block-after-lowers, block-alone, no-means, means-after-lowers, means-alone}
 use Rattle.certificate.proofs.numbers.check_means.Statement.{statement}
 use Rattle.certificate.proofs.numbers.check_means.Tie as tie
-use Rattle.certificate.proofs.numbers.check_means.Reads as reads
-use Rattle.certificate.proofs.numbers.check_means.Lts as lts
-use Rattle.certificate.proofs.numbers.check_block_of_means.Reads as check-block-of-means-reads
-use Rattle.delivery.proofs.shape.entries.Reads as entries-reads
-use Rattle.delivery.proofs.shape.has_lowers.Reads as has-lowers-reads
-use Rattle.delivery.proofs.shape.has_means.Reads as has-means-reads
 
--- src/numbers.rt:123:9
+-- Past the first test the mean steps stand, and in the branch of the second the lowers do.
+means-stand : (c : tie.Else1) → hasMeans (c .before .before .before .before .args .shape) ≡ true
+means-stand c = sym (c .before .has-means .ensures) ∙ not-false _ (c .if1 .left)
+
+lowers-stand : (c : tie.Then2) → hasLowers (c .before .before .before .before .before .before .before .args .shape) ≡ true
+lowers-stand c = sym (c .before .has-lowers .ensures) ∙ c .if2 .taken
+
 has-means-requires : tie.Need-has-means-requires
 has-means-requires c κs = search needs
 
--- src/numbers.rt:124:9
 returns : tie.Need-returns
-returns c = ?
+returns c =
+    no-means _ _ _ _ (now (c .before .before .before .before .args .uppers)) _
+    (sym (c .before .has-means .ensures) ∙ not-true _ (c .if1 .taken))
 
--- src/numbers.rt:126:9
 entries-requires : tie.Need-entries-requires
-entries-requires c κs = ?
+entries-requires c κs = few (c .before .before .before .before .pre .0)
 
--- src/numbers.rt:127:8
 has-lowers-requires : tie.Need-has-lowers-requires
 has-lowers-requires c κs = search needs
 
--- src/numbers.rt:128:27
 mul-block : tie.Need-mul-block
 mul-block c = search needs
 
--- src/numbers.rt:128:21
 sub-block : tie.Need-sub-block
-sub-block c = ?
+sub-block c = omega (arith, c .before .before .before .before .before .before .before .pre .3 .lowers (lowers-stand c) .whole)
 
--- src/numbers.rt:128:21
 part-block-start : tie.Need-part-block-start
-part-block-start c = ?
+part-block-start c = omega (arith, c .before .before .before .before .before .before .before .pre .3 .lowers (lowers-stand c) .whole)
 
--- src/numbers.rt:128:21
 part-block-end : tie.Need-part-block-end
 part-block-end c = search needs
 
--- src/numbers.rt:129:73
 add-check-block-of-means : tie.Need-add-check-block-of-means
 add-check-block-of-means c = search needs
 
--- src/numbers.rt:129:9
 check-block-of-means-requires : tie.Need-check-block-of-means-requires
-check-block-of-means-requires c κs = ?
+check-block-of-means-requires c κs =
+    let pre = c .before .before .before .before .before .before .before .before .pre in
+    let entries = c .before .before .before in
+    let block = block-after-lowers (pre .3) (means-stand (entries .before)) (entries .entries .ensures .0) (lowers-stand (c .before)) in
+    (pre .0, pre .1, pre .2, block, omega arith)
 
--- src/numbers.rt:129:9
 returns-2 : tie.Need-returns-2
-returns-2 c = ?
+returns-2 c =
+    let entries = c .before .before .before .before in
+    let args = entries .before .before .before .before .before .args in
+    means-after-lowers _ _ _ _ (now (args .uppers)) _ _ (means-stand (entries .before)) (entries .entries .ensures .0)
+    (lowers-stand (c .before .before)) (c .check-block-of-means .ensures)
 
--- src/numbers.rt:131:5
 check-block-of-means-requires-2 : tie.Need-check-block-of-means-requires-2
-check-block-of-means-requires-2 c κs = ?
+check-block-of-means-requires-2 c κs =
+    let pre = c .before .before .before .before .before .before .before .pre in
+    let block = block-alone (pre .3) (means-stand (c .before .before .before)) (sym (c .before .has-lowers .ensures) ∙ c .if2 .left) in
+    (pre .0, pre .1, pre .2, block, omega arith)
 
--- src/numbers.rt:111:1
 returns-3 : tie.Need-returns-3
-returns-3 c = ?
+returns-3 c =
+    let entries = c .before .before .before in
+    let args = entries .before .before .before .before .before .args in
+    means-alone _ _ _ _ (now (args .uppers)) _ _ (means-stand (entries .before)) (entries .entries .ensures .0)
+    (sym (c .before .before .has-lowers .ensures) ∙ c .before .if2 .left) (c .check-block-of-means2 .ensures)
 
 pub check-means-spec : {M : Type 1} → statement M
 check-means-spec =

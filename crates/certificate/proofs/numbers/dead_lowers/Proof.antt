@@ -1,31 +1,31 @@
+-- `dead_lowers`: the lowers are the values of the first V records of the rest, and where none stand nothing is tested.
+use native.Mathlib.Omega.{arith}
+use mathlib.Core.Path.{sym}
+use denote.Ref.{now}
+use borrow.Author.Tests.{not-true, not-false}
 use borrow.Author.Needs.{needs}
+use Rattle.outcome.proofs.Tests.{first-empty}
+use Rattle.certificate.proofs.Steps.{dead-found}
 use Rattle.certificate.proofs.numbers.dead_lowers.Statement.{statement}
 use Rattle.certificate.proofs.numbers.dead_lowers.Tie as tie
-use Rattle.certificate.proofs.numbers.dead_lowers.Reads as reads
-use Rattle.certificate.proofs.numbers.dead_lowers.Lts as lts
-use Rattle.delivery.proofs.numbers.values.Reads as values-reads
-use Rattle.delivery.proofs.shape.entries.Reads as entries-reads
-use Rattle.inequalities.proofs.marks.check_dead.Reads as check-dead-reads
 
--- src/numbers.rt:40:9
 returns : tie.Need-returns
-returns c = ?
+returns c = rw (not-true (c .before .before .args .lowers) (c .if1 .taken)) (sym first-empty)
 
--- src/numbers.rt:42:9
 entries-requires : tie.Need-entries-requires
 entries-requires c κs = search needs
 
--- src/numbers.rt:43:18
 values-requires : tie.Need-values-requires
-values-requires c κs = ?
+values-requires c κs = omega (arith, c .before .before .before .pre .2 (not-false _ (c .before .if1 .left)) .whole)
 
--- src/numbers.rt:44:5
 check-dead-requires : tie.Need-check-dead-requires
 check-dead-requires c κs = search needs
 
--- src/numbers.rt:35:1
 returns-2 : tie.Need-returns-2
-returns-2 c = ?
+returns-2 c =
+    let args = c .before .before .before .before .before .before .args in
+    dead-found _ _ (c .before .before .before .entries .ensures .0) (c .before .before .values .ensures) (args .lowers)
+    (not-false _ (c .before .before .before .before .if1 .left)) (now (args .live)) _ (c .check-dead .ensures)
 
 pub dead-lowers-spec : {M : Type 1} → statement M
 dead-lowers-spec =
