@@ -99,8 +99,16 @@ input b d o = record { model = b; delivery = d; due = o }
 abbrev pub refusedAt : Reason → ℕ → Outcome
 refusedAt r i = Refused r i (pos 0)
 
+-- The delivery of document 01 for W, with the second upper, two lowers and the first mean steps left open.
+abbrev pub wLowered : ℕ → ℕ → ℕ → ℕ → List ℕ
+wLowered u a b r =
+    line 85 0 0 0 655360 ++ (line 85 0 0 1 u ++ (line 85 1 0 0 0 ++ (line 85 1 0 1 1179648
+    ++ (line 76 0 0 0 a ++ (line 76 0 0 1 393216 ++ (line 76 1 0 0 b ++ (line 76 1 0 1 1048576
+    ++ (line 82 0 0 0 r ++ line 82 1 0 0 256))))))))
+
 -- Bad input: each reason of the files with its place. Lengths: none, a byte short, a byte long. Each number of a model record out of range,
 -- unused symbols, weights, order, a row's sum. Lengths of a delivery, each byte of a record, values, the shapes of one state, a dead entry.
+-- Then files that fail twice, which tell the order: each reason against the next, record by record, and block by block.
 abbrev pub badInputs : List Input
 badInputs =
     input [] [] (refusedAt ModelLength 0)
@@ -139,4 +147,14 @@ badInputs =
     ∷ input zToZ (line 85 0 0 0 1) (refusedAt DeadNotZero 0)
     ∷ input zToZ (line 85 0 0 0 0 ++ line 76 0 0 0 1) (refusedAt DeadNotZero 1)
     ∷ input (oneRule 65536) (line 85 0 0 0 1048577 ++ line 76 0 0 0 1048577) (Refused LowerTooLarge 1 (negsuc 68719476735))
+    ∷ input (rule 0 0 0 0 1 0 0) [] (refusedAt UnusedNotZero 0)
+    ∷ input (oneRule 32768 ++ oneRule 0) [] (refusedAt WeightOutOfRange 1)
+    ∷ input (oneRule 32768 ++ (oneRule 32768 ++ rule 8 0 0 0 0 0 65536)) [] (refusedAt NotAscending 1)
+    ∷ input (oneRule 65535) (line 85 0 0 0 1048576) (refusedAt RowSumWrong 0)
+    ∷ input (oneRule 65536) (line 76 0 0 0 2097153) (refusedAt NotDue 0)
+    ∷ input (oneRule 65536) (line 85 0 0 0 2097153 ++ line 76 1 0 0 0) (refusedAt ValueOutOfRange 0)
+    ∷ input wFile (wLowered 466033 524288 1 512) (refusedAt DeadNotZero 6)
+    ∷ input wFile (wLowered 466033 655361 0 512) (Refused UpperTooSmall 1 (negsuc 30064771071))
+    ∷ input (oneRule 65536) (line 85 0 0 0 1048577 ++ line 76 0 0 0 1048578) (refusedAt LowerAboveUpper 1)
+    ∷ input wFile (wLowered 524288 655360 0 485) (Refused LowerTooLarge 4 (negsuc 1970324836974591))
     ∷ []
