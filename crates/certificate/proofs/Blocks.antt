@@ -14,7 +14,6 @@ use Rattle.outcome.proofs.Tests.{each-cong}
 use Rattle.ppda.specs.Rules.{Rule, IsModel}
 use Rattle.ppda.specs.Equations.{Vector, RowVector, entries, rows, f}
 use Rattle.model.specs.Rules.{rulesOf}
-use Rattle.model.proofs.Rows.{row-below}
 use Rattle.delivery.specs.Records.{valueOf}
 use Rattle.delivery.specs.Shapes.{entriesIn}
 use Rattle.delivery.specs.Numbers.{entryAt, rowAt, uppersOf}
@@ -22,7 +21,7 @@ use Rattle.delivery.specs.Layout.{eachEntry, eachRow}
 use Rattle.delivery.specs.Walks.{Values}
 use Rattle.delivery.proofs.Walks.{entries-by-number}
 use Rattle.equations.specs.Held.{AtMost, Same}
-use Rattle.equations.proofs.Marks.{place-below}
+use Rattle.ppda.proofs.Places.{row-below, entry-below}
 use Rattle.equations.proofs.Vectors.{SameRows, f-same, mean-side-same}
 use Rattle.inequalities.specs.declared.sides.Side.the-variants.{Upper, StrictUpper, Lower}
 use Rattle.inequalities.specs.Inequalities.{deadTest, upperTest, belowTest, lowerTest, meanTest, deadTests, upperTests, belowTests, lowerTests, meanTests}
@@ -119,7 +118,7 @@ module _ (b : List ℕ) (s g : ℕ) where
 
 pub values-same : (s g : ℕ) {d l : List ℕ} → Values d (s * g * s) l → Same s g (entries s g l) (uppersOf s g d)
 unfolding uppersOf
-values-same s g values p z q hp hz hq = values .value (entryAt s g p z q) (place-below s g p z q hp hz hq)
+values-same s g values p z q hp hz hq = values .value (entryAt s g p z q) (entry-below s g p z q hp hz hq)
 
 pub values-rows : (s g : ℕ) {d l : List ℕ} → Values d (s * g) l → SameRows s g (rows g l) (rowsOfBlock g d)
 values-rows s g values p z hp hz = values .value (rowAt g p z) (row-below s g p z hp hz)

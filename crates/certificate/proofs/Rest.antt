@@ -13,7 +13,7 @@ use Rattle.ppda.specs.Rules.{IsModel}
 use Rattle.ppda.specs.Equations.{Vector}
 use Rattle.ppda.specs.Live.{alive}
 use Rattle.model.specs.Rules.{rulesOf}
-use Rattle.model.proofs.Rows.{row-split}
+use Rattle.ppda.proofs.Places.{row-split}
 use Rattle.delivery.specs.declared.shape.Shape.{Shape}
 use Rattle.delivery.specs.declared.shape.Shaped.the-variants.{Of}
 use Rattle.delivery.specs.Records.{valueOf}

@@ -1,5 +1,4 @@
 -- The laws of a delivery file: its sizes, what its shape means, and its tests and values in the order in which the code meets them.
-pub mod Sizes
 pub mod Shapes
 pub mod Walks
 pub mod Blocks

@@ -1,7 +1,7 @@
 -- Two ways through a block: nested by state, symbol and exit, as the tests are defined, and number by number, as the code goes.
 -- Besides, the values past the first records, and the list of values that a loop fills.
 use Prim.Native.Nat.{ℕ, zero, suc, _+_, _*_, _/_, _%_, _<_}
-use native.Mathlib.Nat.{add-zero, add-suc, zero-mul, suc-mul, mod-lt, mod-eq-of-lt, div-eq-of-lt, div-add-mod', div-lt-iff-lt-mul, mul-add-div-right, mul-add-mod-self-right}
+use native.Mathlib.Nat.{add-zero, add-suc, zero-mul, suc-mul, mod-eq-of-lt, div-eq-of-lt, mul-add-div-right, mul-add-mod-self-right}
 use native.Mathlib.Omega.{arith}
 use mathlib.Core.Bool.{Bool, true, false}
 use mathlib.Core.List.{List, _++_, append-nil, append-assoc}
@@ -42,10 +42,6 @@ row-state g p z l = mul-add-div-right {m = g} (omega arith) p z ∙ ap (λ k. p 
 
 row-symbol : (g p z : ℕ) → z < g → (p * g + z) % g ≡ z
 row-symbol g p z l = mul-add-mod-self-right p g z ∙ mod-eq-of-lt l
-
--- Every number below s × g is that of a row.
-pub row-of : (s g k : ℕ) → 0 < g → k < s * g → (k / g < s) × (k % g < g) × (k / g * g + k % g ≡ k)
-row-of s g k some l = (div-lt-iff-lt-mul some .1 l, mod-lt k some, div-add-mod' k g)
 
 pub rows-by-number : (s g : ℕ) (h : ℕ → ℕ → List Test) → 0 < g → eachRow s g h ≡ each (s * g) (λ k. h (k / g) (k % g))
 unfolding eachRow

@@ -1,6 +1,6 @@
 -- Rounds of marks in a list are the theory's rounds, and once a round changes nothing no later round does.
-use Prim.Native.Nat.{ℕ, zero, suc, _+_, _*_, _/_, _%_, _≤_, _<_}
-use native.Mathlib.Nat.{eq-or-lt-of-le, le-of-suc-le-suc, mod-lt, div-lt-iff-lt-mul, div-add-mod'}
+use Prim.Native.Nat.{ℕ, zero, suc, _+_, _*_, _≤_, _<_}
+use native.Mathlib.Nat.{eq-or-lt-of-le, le-of-suc-le-suc}
 use native.Mathlib.Numerals.{add-one}
 use native.Mathlib.Omega.{arith}
 use mathlib.Core.Bool.{Bool, true, false}
@@ -16,7 +16,7 @@ use Rattle.ppda.specs.Rules.{Rule, IsModel}
 use Rattle.ppda.specs.Equations.{entries, f}
 use Rattle.ppda.specs.Live.{mark, alive}
 use Rattle.model.specs.Rules.{rulesOf}
-use Rattle.model.proofs.Rows.{row-number, row-below}
+use Rattle.ppda.proofs.Places.{entry-once, entry-below}
 use Rattle.equations.specs.Held.{Sized, AtMost, Same}
 use Rattle.equations.specs.Rounds.{nextMark, RoundTo}
 use Rattle.equations.proofs.Ranges.{sized-model}
@@ -27,21 +27,6 @@ unfolding sign
 sign-none n h = let e : n ≡ 0 = omega arith in rw e
 
 -- ---- places
-
--- An entry's place is below the number of entries, and is no other entry's.
-pub place-below : (s g p z q : ℕ) → p < s → z < g → q < s → (p * g + z) * s + q < s * g * s
-place-below s g p z q hp hz hq = row-below (s * g) s (p * g + z) q (row-below s g p z hp hz) hq
-
-place-once : (s g p z q p′ z′ q′ : ℕ) → z < g → q < s → z′ < g → q′ < s → (p * g + z) * s + q ≡ (p′ * g + z′) * s + q′
-    → (p ≡ p′) × (z ≡ z′) × (q ≡ q′)
-place-once s g p z q p′ z′ q′ hz hq hz′ hq′ e =
-    let (row, last) = row-number s (p * g + z) q (p′ * g + z′) q′ hq hq′ e in
-    let (first, second) = row-number g p z p′ z′ hz hz′ row in
-    (first, second, last)
-
--- A row by its number.
-pub row-parts : (s g k : ℕ) → 0 < g → k < s * g → (k / g < s) × (k % g < g) × (k / g * g + k % g ≡ k)
-row-parts s g k some h = (div-lt-iff-lt-mul {k = g} some .1 h, mod-lt k some, div-add-mod' k g)
 
 -- ---- one round, entry by entry
 
@@ -75,7 +60,7 @@ module _ {b : List ℕ} {s g : ℕ} {marks : List ℕ} where
       done : (p′ z′ q′ : ℕ) → p′ < s → z′ < g → q′ < s → (p′ * g + z′) * s + q′ < n + 1 → (t : Bool) → eqb ((p′ * g + z′) * s + q′) n ≡ t
           → getD (set l n m) ((p′ * g + z′) * s + q′) 0 ≡ nextMark b s g marks p′ z′ q′
       done p′ z′ q′ hp′ hz′ hq′ h true u =
-          let (first, second, last) = place-once s g p′ z′ q′ p z q hz′ hq′ hz hq (eqb-true _ n u ∙ place) in
+          let (first, second, last) = entry-once s g p′ z′ q′ p z q hz′ hq′ hz hq (eqb-true _ n u ∙ place) in
           rw (eqb-true _ n u, getD-set-same l n m 0 (omega (arith, to .size)), first, second, last) same
       done p′ z′ q′ hp′ hz′ hq′ h false u =
           let other = eqb-false _ n u in
@@ -116,7 +101,7 @@ module _ {b : List ℕ} {s g : ℕ} (sized : Sized b s g) (marks : List ℕ) (k 
   pub marks-next : {next : List ℕ} → RoundTo b s g marks (s * g * s) next → Same s g (entries s g next) (mark (rulesOf b) s (k + 1))
   unfolding nextMark
   marks-next to p z q hp hz hq =
-      to .done p z q hp hz hq (place-below s g p z q hp hz hq)
+      to .done p z q hp hz hq (entry-below s g p z q hp hz hq)
       ∙ ap sign (f-same (sized-model sized) 1 (entries s g marks) (mark (rulesOf b) s k) same p z q hq)
       ∙ sym (mark-next (rulesOf b) s k p z q)
 
@@ -134,5 +119,5 @@ module _ {b : List ℕ} {s g : ℕ} (sized : Sized b s g) (marks : List ℕ) (k 
       still : Same s g (mark (rulesOf b) s k) (mark (rulesOf b) s (k + 1))
       still p z q hp hz hq =
           sym (same p z q hp hz hq)
-          ∙ unchanged ((p * g + z) * s + q) (place-below s g p z q hp hz hq)
+          ∙ unchanged ((p * g + z) * s + q) (entry-below s g p z q hp hz hq)
           ∙ marks-next to p z q hp hz hq

@@ -10,6 +10,7 @@ use lib.ListN.{length, getD, set}
 use lib.Seq.{getD-set-same, getD-set-other}
 use borrow.Author.Tests.{ltb-true, ltb-false}
 use borrow.Author.Count.{below-more}
+use Rattle.ppda.proofs.Places.{rows-most, entries-most}
 use Rattle.ppda.specs.Rules.{IsModel}
 use Rattle.model.specs.Records.{recordsOf, symbolsOf, target, top, under}
 use Rattle.model.proofs.Records.{states-most, symbols-most}
@@ -36,10 +37,10 @@ module _ {b : List ℕ} {s g : ℕ} (sized : Sized b s g) where
   some-symbols = omega (arith, sized .symbols)
 
   pub few-rows : s * g ≤ 128
-  few-rows = mul-le-mul {n₂ = 8} {m₂ = 16} (omega (arith, few-states)) (omega (arith, few-symbols))
+  few-rows = rows-most s g few-states few-symbols
 
   pub few-entries : s * g * s ≤ 1024
-  few-entries = mul-le-mul {n₂ = 128} {m₂ = 8} few-rows (omega (arith, few-states))
+  few-entries = entries-most s g few-states few-symbols
 
   pub record-within : {i : ℕ} → i < recordsOf b → 10 * i + 9 < length b
   record-within l = omega (arith, sized .file .records .whole)

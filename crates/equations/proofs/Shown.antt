@@ -1,7 +1,7 @@
 -- The live marks that are shown, by the verdict on the model.
 use Prim.Native.Nat.{ℕ}
 use mathlib.Core.List.{List}
-use mathlib.Core.Path.{_≡_, sym, _∙_}
+use mathlib.Core.Path.{_≡_}
 use lib.IntN.{ℤ}
 use lib.ListN.{replicate}
 use Rattle.outcome.specs.declared.Reason.{Reason}

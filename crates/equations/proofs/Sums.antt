@@ -10,6 +10,7 @@ use mathlib.Core.Path.{_≡_, refl, sym, ap, ap₂, _∙_}
 use lib.Dec.{eqb}
 use lib.ListN.{getD}
 use borrow.Author.Tests.{eq-eqb, ne-eqb}
+use Rattle.ppda.proofs.Places.{row-below}
 use Rattle.ppda.specs.Sums.{bit, sumTo}
 use Rattle.ppda.specs.Rules.{Push, nothing, one, two, fits, overRow}
 use Rattle.ppda.specs.Equations.{entries, rows, through, stepsThrough}
@@ -18,7 +19,7 @@ use Rattle.ppda.proofs.Rows.{row-const}
 use Rattle.model.specs.Records.{recordsOf, target, pushes, top, under, weight}
 use Rattle.model.specs.Rules.{pushOf, ruleOf, rulesOf, rowOf}
 use Rattle.model.proofs.Records.{over-row}
-use Rattle.model.proofs.Rows.{row-fits, row-below}
+use Rattle.model.proofs.Rows.{row-fits}
 use Rattle.equations.specs.Held.{Sized, StartsAt, Starts, AtMost}
 use Rattle.equations.specs.Products.{product, stepsProduct}
 use Rattle.equations.proofs.Ranges.{starts-ascend}

@@ -9,8 +9,7 @@ use lib.Dec.{lit<}
 use Rattle.ppda.specs.Sums.{leastTo}
 use Rattle.ppda.specs.Margin.{share, shareAt}
 use Rattle.ppda.proofs.Sums.{leastTo-le-top, leastTo-le-term, leastTo-greatest}
-use Rattle.model.proofs.Rows.{row-number, row-below}
-use Rattle.delivery.proofs.Walks.{row-of}
+use Rattle.ppda.proofs.Places.{row-once, row-of, row-below}
 use Rattle.inequalities.specs.Shares.{StrictAt, shareOf, leastShare}
 
 -- ---- one share
@@ -68,7 +67,7 @@ leastOfRows b s g a u n = leastTo (2 ^ 20) (λ k. leastOfRow b s g a u (k / g) (
 row-term : (g p z : ℕ) (h : ℕ → ℕ → ℕ) → z < g → h ((p * g + z) / g) ((p * g + z) % g) ≡ h p z
 row-term g p z h l =
     let k : ℕ = p * g + z in
-    let (state, symbol) = row-number g (k / g) (k % g) p z (mod-lt k (omega arith)) l (div-add-mod' k g) in
+    let (state, symbol) = row-once g (k / g) (k % g) p z (mod-lt k (omega arith)) l (div-add-mod' k g) in
     ap₂ h state symbol
 
 -- Row by row, by state and symbol or by number.

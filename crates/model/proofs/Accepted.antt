@@ -9,6 +9,7 @@ use lib.Dec.{eqb, leb, ltb}
 use lib.IntN.{ℤ}
 use lib.ListN.{length}
 use borrow.Author.Tests.{ltb-true, ltb-false, eqb-true, eqb-false, not-false, lt-ltb, le-ltb, eq-eqb, ne-eqb}
+use Rattle.ppda.proofs.Places.{row-split, row-below}
 use Rattle.outcome.specs.declared.Reason.{Reason}
 use Rattle.outcome.specs.declared.Outcome.the-variants.{Accepted, Refused}
 use Rattle.outcome.specs.Tests.{Test, refusal, first, each, Passed, FirstFailure}
@@ -20,7 +21,7 @@ use Rattle.model.specs.Rules.{pushOf, ruleOf, rulesOf, rowSum}
 use Rattle.model.specs.Verdict.{wholeRecords, rangeAt, unusedAt, weightAt, above, ascends, recordTests, rowTests, modelTests, modelVerdict}
 use Rattle.model.specs.Accepted.{RecordRight, Above, RecordsRight, ModelFile}
 use Rattle.model.proofs.Records.{in-listTo, state-below, target-below, symbol-below, top-below, under-below}
-use Rattle.model.proofs.Rows.{row-sum, row-split, row-below}
+use Rattle.model.proofs.Rows.{row-sum}
 
 -- ---- tests and what they say
 

@@ -1,16 +1,17 @@
--- The rows of a model file by their numbers p × g + Z: no two rows share a number, record i's row is the row of its rule, a loop over the
--- records makes the sums of the rows, and the rows of the records ascend.
-use Prim.Native.Nat.{ℕ, zero, suc, _+_, _*_, _/_, _%_, _≤_, _<_}
-use native.Mathlib.Nat.{eq-or-lt-of-le, le-refl, le-trans, le-of-suc-le-suc, mul-le-mul, mul-le-mul-right, mul-one, mod-lt, div-lt-iff-lt-mul, div-add-mod'}
+-- The rows of a model file by their numbers p × g + Z: record i's row is the row of its rule, a loop over the records makes the sums of the
+-- rows, and the rows of the records ascend.
+use Prim.Native.Nat.{ℕ, zero, suc, _+_, _*_, _≤_, _<_}
+use native.Mathlib.Nat.{eq-or-lt-of-le, le-refl, le-trans, le-of-suc-le-suc, mul-le-mul, mul-one}
 use native.Mathlib.Omega.{arith}
 use mathlib.Core.Bool.{Bool, true, false}
 use mathlib.Core.List.{List}
 use mathlib.Core.Logic.{_⊎_, inl, inr}
 use mathlib.Core.Path.{_≡_, refl, sym, ap, _∙_}
-use lib.Dec.{eqb, ltb}
+use lib.Dec.{eqb}
 use lib.ListN.{length, getD, set, replicate, length-set, getD-replicate}
 use lib.Seq.{getD-set-same, getD-set-other}
-use borrow.Author.Tests.{ltb-true, ltb-false, eqb-true, eqb-false, eq-eqb, ne-eqb}
+use borrow.Author.Tests.{eqb-true, eqb-false, eq-eqb, ne-eqb}
+use Rattle.ppda.proofs.Places.{row-lower, row-once}
 use Rattle.ppda.specs.Sums.{bit, sumTo}
 use Rattle.ppda.specs.Rules.{fits, overRow}
 use Rattle.ppda.proofs.Sums.{sumTo-cong, sumTo-le, sumTo-step}
@@ -20,39 +21,9 @@ use Rattle.model.specs.Rules.{ruleOf, rulesOf, rowOf, rowSum}
 use Rattle.model.specs.Accepted.{Above, RecordsRight, ModelFile}
 use Rattle.model.proofs.Records.{symbol-below, states-most, symbols-most, over-row}
 
--- ---- row numbers
-
--- A row of a lower state has a lower number.
-row-lower : (g p z p′ z′ : ℕ) → z < g → p < p′ → p * g + z < p′ * g + z′
-row-lower g p z p′ z′ hz hp = let t : suc p * g ≤ p′ * g = mul-le-mul-right g hp in omega arith
-
--- Different rows have different numbers.
-pub row-number : (g p z p′ z′ : ℕ) → z < g → z′ < g → p * g + z ≡ p′ * g + z′ → (p ≡ p′) × (z ≡ z′)
-row-number g p z p′ z′ hz hz′ e = go (ltb p p′) refl (ltb p′ p) refl
-  where
-    go : (s : Bool) → ltb p p′ ≡ s → (t : Bool) → ltb p′ p ≡ t → (p ≡ p′) × (z ≡ z′)
-    go true u t v = absurd (omega (arith, row-lower g p z p′ z′ hz (ltb-true p p′ u)))
-    go false u true v = absurd (omega (arith, row-lower g p′ z′ p z hz′ (ltb-true p′ p v)))
-    go false u false v =
-        let q : p ≡ p′ = omega (arith, ltb-false p p′ u, ltb-false p′ p v) in
-        let f : p′ * g + z ≡ p′ * g + z′ = rw q at e in
-        (q, omega arith)
-
--- Every row number below s × g is that of a row, and every row of s states and g symbols has a number below s × g.
-pub row-split : (s g k : ℕ) → k < s * g → (p : ℕ) × (z : ℕ) × (p < s) × (z < g) × (k ≡ p * g + z)
-row-split s zero k h = absurd (omega arith)
-row-split s (suc g) k h =
-    (k / suc g, k % suc g, div-lt-iff-lt-mul {k = suc g} (omega arith) .1 h, mod-lt k (omega arith), sym (div-add-mod' k (suc g)))
-
-pub row-below : (s g p z : ℕ) → p < s → z < g → p * g + z < s * g
-row-below s g p z hp hz = omega (arith, row-lower g p z s 0 hz hp)
-
--- Numbers in range make a row number below 128, and right records name at most 128 rows.
-pub row-most : (p g z : ℕ) → p < 8 → g < 17 → z < 16 → p * g + z < 128
-row-most p g z hp hg hz = let p7 : p ≤ 7 = omega arith in let g16 : g ≤ 16 = omega arith in omega (arith, mul-le-mul p7 g16)
-
-pub rows-most : (b : List ℕ) → RecordsRight b → statesOf b * symbolsOf b ≤ 128
-rows-most b r = mul-le-mul (states-most b (r .right)) (symbols-most b (r .right))
+-- Right records name at most 128 rows.
+pub rows-of-records : (b : List ℕ) → RecordsRight b → statesOf b * symbolsOf b ≤ 128
+rows-of-records b r = mul-le-mul (states-most b (r .right)) (symbols-most b (r .right))
 
 -- ---- the rows of records
 
@@ -68,7 +39,7 @@ unfolding ruleOf rowOf
 row-fits b i p z l hz =
     same-test (fits (ruleOf b i) p z) (eqb (rowOf b (symbolsOf b) i) (p * symbolsOf b + z))
     (λ e. let h = fits-exactly (ruleOf b i) p z .0 e in eq-eqb (rowOf b (symbolsOf b) i) (p * symbolsOf b + z) (rw (h .0, h .1)))
-    (λ e. fits-exactly (ruleOf b i) p z .1 (row-number (symbolsOf b) (state b i) (symbol b i) p z (symbol-below b i l) hz (eqb-true _ _ e)))
+    (λ e. fits-exactly (ruleOf b i) p z .1 (row-once (symbolsOf b) (state b i) (symbol b i) p z (symbol-below b i l) hz (eqb-true _ _ e)))
 
 pub row-sum : (b : List ℕ) (p z : ℕ) → z < symbolsOf b
     → rowSum b (symbolsOf b) (p * symbolsOf b + z) ≡ overRow (rulesOf b) p z (λ r. 1)

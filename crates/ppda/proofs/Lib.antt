@@ -2,6 +2,7 @@
 pub mod W
 pub mod Sums
 pub mod Lists
+pub mod Places
 pub mod Rows
 pub mod Steps
 pub mod Stacks

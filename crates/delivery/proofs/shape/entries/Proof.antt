@@ -1,7 +1,7 @@
 -- `entries`: 8 × 16 × 8 is 1,024.
 use native.Mathlib.Omega.{arith}
 use mathlib.Core.Path.{refl}
-use Rattle.delivery.proofs.Sizes.{rows-most, entries-most}
+use Rattle.ppda.proofs.Places.{rows-most, entries-most}
 use Rattle.delivery.proofs.shape.entries.Statement.{statement}
 use Rattle.delivery.proofs.shape.entries.Tie as tie
 

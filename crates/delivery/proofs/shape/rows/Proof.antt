@@ -1,7 +1,7 @@
 -- `rows`: 8 × 16 is 128.
 use native.Mathlib.Omega.{arith}
 use mathlib.Core.Path.{refl}
-use Rattle.delivery.proofs.Sizes.{rows-most}
+use Rattle.ppda.proofs.Places.{rows-most}
 use Rattle.delivery.proofs.shape.rows.Statement.{statement}
 use Rattle.delivery.proofs.shape.rows.Tie as tie
 

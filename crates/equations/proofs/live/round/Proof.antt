@@ -3,9 +3,10 @@ use Prim.Native.Nat.{_+_, _*_, _≤_, _-_}
 use native.Mathlib.Nat.{div-add-mod'}
 use native.Mathlib.Omega.{arith}
 use mathlib.Core.Path.{refl, sym, ap}
+use Rattle.ppda.proofs.Places.{row-of}
 use Rattle.equations.specs.Rounds.{RoundTo}
 use Rattle.equations.proofs.Ranges.{few-rows, some-symbols}
-use Rattle.equations.proofs.Marks.{row-parts, round-none, round-at}
+use Rattle.equations.proofs.Marks.{round-none, round-at}
 use Rattle.equations.proofs.live.round.Statement.{statement}
 use Rattle.equations.proofs.live.round.Tie as tie
 
@@ -30,7 +31,7 @@ rem-round-row c = some-symbols (c .before .before .before .before .pre .0)
 round-row-requires : tie.Need-round-row-requires Inv-loop μ-loop
 round-row-requires c κs =
     let pre = c .before .before .before .before .pre in
-    let parts = row-parts _ _ _ (some-symbols (pre .0)) (c .before .loop-test .taken) in
+    let parts = row-of _ _ _ (some-symbols (pre .0)) (c .before .loop-test .taken) in
     let to = round-at (c .before .before .loop .inv .1) (ap (λ n. n * c .before .before .before .before .args .s) (sym (parts .2))) in
     (pre .0, pre .1, pre .2, parts .0, parts .1, to)
 

@@ -6,11 +6,12 @@ use mathlib.Core.List.{List}
 use mathlib.Core.Path.{_≡_, sym, ap, _∙_}
 use denote.Ref.{now}
 use borrow.Author.Needs.{needs}
+use Rattle.ppda.proofs.Places.{row-of}
 use Rattle.outcome.proofs.Tests.{each-none, each-more, each-refused, each-end}
 use Rattle.outcome.specs.Tests.{Test, first, each}
 use Rattle.outcome.specs.declared.Outcome.the-variants.{Accepted}
 use Rattle.delivery.specs.Layout.{eachRow}
-use Rattle.delivery.proofs.Walks.{row-of, rows-by-number}
+use Rattle.delivery.proofs.Walks.{rows-by-number}
 use Rattle.equations.proofs.Ranges.{few-states, few-symbols, some-symbols}
 use Rattle.inequalities.specs.Walks.{meanAt}
 use Rattle.inequalities.proofs.Tests.{mean-found}

@@ -5,11 +5,12 @@ use mathlib.Core.List.{List}
 use mathlib.Core.Path.{_≡_, sym, ap, _∙_}
 use denote.Ref.{now}
 use borrow.Author.Needs.{needs}
+use Rattle.ppda.proofs.Places.{row-of}
 use Rattle.outcome.proofs.Tests.{each-none, each-more, each-refused, each-end}
 use Rattle.outcome.specs.Tests.{Test, first, each}
 use Rattle.outcome.specs.declared.Outcome.the-variants.{Accepted}
 use Rattle.delivery.specs.Layout.{eachEntry}
-use Rattle.delivery.proofs.Walks.{row-of, entries-by-row}
+use Rattle.delivery.proofs.Walks.{entries-by-row}
 use Rattle.equations.proofs.Ranges.{few-states, few-symbols, some-symbols}
 use Rattle.inequalities.specs.declared.sides.Side.{Side}
 use Rattle.inequalities.specs.Walks.{sideAt}

@@ -1,7 +1,7 @@
 -- `row_number`: 7 × 16 + 15 is below 128.
 use native.Mathlib.Omega.{arith}
 use mathlib.Core.Path.{refl}
-use Rattle.model.proofs.Rows.{row-most}
+use Rattle.ppda.proofs.Places.{row-most}
 use Rattle.model.proofs.record.row_number.Statement.{statement}
 use Rattle.model.proofs.record.row_number.Tie as tie
 

@@ -12,7 +12,7 @@ use Rattle.model.specs.Rules.{rowSum}
 use Rattle.model.specs.Records.{statesOf, symbolsOf}
 use Rattle.model.specs.Verdict.{rowTests}
 use Rattle.model.proofs.Verdict.{row-fails, row-passes}
-use Rattle.model.proofs.Rows.{rows-most}
+use Rattle.model.proofs.Rows.{rows-of-records}
 use Rattle.model.proofs.Records.{symbols-most}
 use Rattle.model.proofs.row_sums.check.Statement.{statement}
 use Rattle.model.proofs.row_sums.check.Tie as tie
@@ -31,7 +31,7 @@ rows : (c : tie.After-states Inv-loop μ-loop)
 rows c = ap₂ _*_ (c .states .ensures .0) (c .before .symbols .ensures .0)
 
 few : (c : tie.After-states Inv-loop μ-loop) → c .states .result * c .before .symbols .result ≤ 128
-few c = rw (rows c) (rows-most _ (c .before .before .before .pre))
+few c = rw (rows c) (rows-of-records _ (c .before .before .before .pre))
 
 -- The number read is the sum of row k.
 sum-read : (c : tie.In-loop Inv-loop μ-loop)

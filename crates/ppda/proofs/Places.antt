@@ -1,0 +1,56 @@
+-- Rows and entries by their numbers in file order: row (p, z) is number p × g + z, and entry (p, z, q) is number (p × g + z) × s + q.
+use Prim.Native.Nat.{ℕ, zero, suc, _+_, _*_, _/_, _%_, _≤_, _<_}
+use native.Mathlib.Nat.{mul-le-mul, mul-le-mul-right, mod-lt, div-lt-iff-lt-mul, div-add-mod'}
+use native.Mathlib.Omega.{arith}
+use mathlib.Core.Bool.{Bool, true, false}
+use mathlib.Core.Path.{_≡_, refl, sym}
+use lib.Dec.{ltb}
+use borrow.Author.Tests.{ltb-true, ltb-false}
+
+-- A row of a lower state has a lower number.
+pub row-lower : (g p z p′ z′ : ℕ) → z < g → p < p′ → p * g + z < p′ * g + z′
+row-lower g p z p′ z′ hz hp = let t : suc p * g ≤ p′ * g = mul-le-mul-right g hp in omega arith
+
+-- Different rows have different numbers.
+pub row-once : (g p z p′ z′ : ℕ) → z < g → z′ < g → p * g + z ≡ p′ * g + z′ → (p ≡ p′) × (z ≡ z′)
+row-once g p z p′ z′ hz hz′ e = go (ltb p p′) refl (ltb p′ p) refl
+  where
+    go : (s : Bool) → ltb p p′ ≡ s → (t : Bool) → ltb p′ p ≡ t → (p ≡ p′) × (z ≡ z′)
+    go true u t v = absurd (omega (arith, row-lower g p z p′ z′ hz (ltb-true p p′ u)))
+    go false u true v = absurd (omega (arith, row-lower g p′ z′ p z hz′ (ltb-true p′ p v)))
+    go false u false v =
+        let q : p ≡ p′ = omega (arith, ltb-false p p′ u, ltb-false p′ p v) in
+        let f : p′ * g + z ≡ p′ * g + z′ = rw q at e in
+        (q, omega arith)
+
+-- So have different entries.
+pub entry-once : (s g p z q p′ z′ q′ : ℕ) → z < g → q < s → z′ < g → q′ < s → (p * g + z) * s + q ≡ (p′ * g + z′) * s + q′
+    → (p ≡ p′) × (z ≡ z′) × (q ≡ q′)
+entry-once s g p z q p′ z′ q′ hz hq hz′ hq′ e =
+    let (row, last) = row-once s (p * g + z) q (p′ * g + z′) q′ hq hq′ e in
+    let (first, second) = row-once g p z p′ z′ hz hz′ row in
+    (first, second, last)
+
+-- Every number below s × g is that of a row, and every row has such a number.
+pub row-of : (s g k : ℕ) → 0 < g → k < s * g → (k / g < s) × (k % g < g) × (k / g * g + k % g ≡ k)
+row-of s g k some h = (div-lt-iff-lt-mul {k = g} some .1 h, mod-lt k some, div-add-mod' k g)
+
+pub row-split : (s g k : ℕ) → k < s * g → (p : ℕ) × (z : ℕ) × (p < s) × (z < g) × (k ≡ p * g + z)
+row-split s zero k h = absurd (omega arith)
+row-split s (suc g) k h = let (a, b, c) = row-of s (suc g) k (omega arith) h in (k / suc g, k % suc g, a, b, sym c)
+
+pub row-below : (s g p z : ℕ) → p < s → z < g → p * g + z < s * g
+row-below s g p z hp hz = omega (arith, row-lower g p z s 0 hz hp)
+
+pub entry-below : (s g p z q : ℕ) → p < s → z < g → q < s → (p * g + z) * s + q < s * g * s
+entry-below s g p z q hp hz hq = row-below (s * g) s (p * g + z) q (row-below s g p z hp hz) hq
+
+-- With at most 8 states and 16 symbols there are at most 128 rows and 1,024 entries.
+pub row-most : (p g z : ℕ) → p < 8 → g < 17 → z < 16 → p * g + z < 128
+row-most p g z hp hg hz = let p7 : p ≤ 7 = omega arith in let g16 : g ≤ 16 = omega arith in omega (arith, mul-le-mul p7 g16)
+
+pub rows-most : (s g : ℕ) → s < 9 → g < 17 → s * g ≤ 128
+rows-most s g hs hg = mul-le-mul {n₁ = s} {m₁ = g} {n₂ = 8} {m₂ = 16} (omega arith) (omega arith)
+
+pub entries-most : (s g : ℕ) → s < 9 → g < 17 → s * g * s ≤ 1024
+entries-most s g hs hg = mul-le-mul {n₁ = s * g} {m₁ = s} {n₂ = 128} {m₂ = 8} (rows-most s g hs hg) (omega arith)
