@@ -6,7 +6,7 @@ use lib.Dec.{lit<}
 use mathlib.Core.Path.{_≡_, refl}
 use Rattle.outcome.specs.declared.Outcome.the-variants.{Accepted}
 use Rattle.outcome.specs.Tests.{first, each}
-use Rattle.bytes.specs.Words.{wordAt}
+use Rattle.words.specs.Words.{wordAt}
 use Rattle.ppda.specs.Sums.{sign, sum, sumTo, leastTo}
 use Rattle.ppda.specs.Rules.{fits, overRow}
 use Rattle.ppda.specs.Equations.{f, meanSide}

@@ -10,7 +10,7 @@ use lib.Dec.{eqb}
 use lib.ListN.{length, getD, set, drop, replicate}
 use lib.Seq.{getD-drop, getD-set-same, getD-set-other}
 use borrow.Author.Tests.{eqb-true, eqb-false}
-use Rattle.bytes.specs.Words.{wordAt}
+use Rattle.words.specs.Words.{wordAt}
 use Rattle.outcome.specs.Tests.{Test, each}
 use Rattle.outcome.proofs.Tests.{each-cong}
 use Rattle.delivery.specs.Records.{valueOf}

@@ -2,7 +2,7 @@
 use Prim.Native.Nat.{ℕ, _+_, _*_}
 use mathlib.Core.List.{List}
 use lib.ListN.{getD}
-use Rattle.bytes.specs.Words.{wordAt}
+use Rattle.words.specs.Words.{wordAt}
 use Rattle.delivery.specs.declared.shape.Block.{Block}
 use Rattle.delivery.specs.declared.shape.Block.the-variants.{Uppers, Lowers, Means}
 

@@ -16,7 +16,7 @@ pub fn byte_of(delivery: &[u8], i: usize, k: usize) -> usize
     requires { ⌜ 8 * i + k < length (now delivery) ⌝ }
     ensures { λ r. ⌜ (r ≡ byteOf (now (delivery .entry)) i k) × (r < 256) ⌝ }
 {
-    bytes::byte(delivery, 8 * i + k)
+    words::byte(delivery, 8 * i + k)
 }
 
 // The value of record i.
@@ -24,7 +24,7 @@ pub fn value_of(delivery: &[u8], i: usize) -> u64
     requires { ⌜ 8 * i + 7 < length (now delivery) ⌝ }
     ensures { λ r. ⌜ (r ≡ valueOf (now (delivery .entry)) i) × (r < 2 ^ 32) ⌝ }
 {
-    bytes::word(delivery, 8 * i + 4)
+    words::word(delivery, 8 * i + 4)
 }
 
 // The kind of a block's records.

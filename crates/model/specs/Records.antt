@@ -2,7 +2,7 @@
 use Prim.Native.Nat.{ℕ, zero, suc, _+_, _*_, _/_, max}
 use mathlib.Core.List.{List, [], _∷_}
 use lib.ListN.{length, getD}
-use Rattle.bytes.specs.Words.{wordAt}
+use Rattle.words.specs.Words.{wordAt}
 
 -- How many whole records the file has.
 unfoldable pub recordsOf : List ℕ → ℕ

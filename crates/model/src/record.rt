@@ -17,7 +17,7 @@ pub fn field(model: &[u8], i: usize, k: usize) -> usize
     requires { ⌜ 10 * i + k < length (now model) ⌝ }
     ensures { λ r. ⌜ (r ≡ field (now (model .entry)) i k) × (r < 256) ⌝ }
 {
-    bytes::byte(model, 10 * i + k)
+    words::byte(model, 10 * i + k)
 }
 
 // The weight of record i.
@@ -25,7 +25,7 @@ pub fn weight(model: &[u8], i: usize) -> u64
     requires { ⌜ 10 * i + 9 < length (now model) ⌝ }
     ensures { λ r. ⌜ (r ≡ weight (now (model .entry)) i) × (r < 2 ^ 32) ⌝ }
 {
-    bytes::word(model, 10 * i + 6)
+    words::word(model, 10 * i + 6)
 }
 
 // The number p × g + Z of a row, one of at most 128.

@@ -3,7 +3,7 @@
 ghost use mathlib.Core.Path.{_≡_};
 ghost use Prim.Native.Nat.{_+_, _<_, _^_};
 ghost use lib.ListN.{length, getD};
-ghost use Rattle.bytes.specs.Words.{wordAt};
+ghost use Rattle.words.specs.Words.{wordAt};
 
 // A byte as a wider number.
 fn wide(b: u8) -> u64

@@ -1,10 +1,10 @@
 use borrow.Author.Needs.{needs}
-use Rattle.bytes.specs.Words.{wordAt}
-use Rattle.bytes.proofs.word.Statement.{statement}
-use Rattle.bytes.proofs.word.Tie as tie
-use Rattle.bytes.proofs.word.Reads as reads
-use Rattle.bytes.proofs.word.Lts as lts
-use Rattle.bytes.proofs.wide.Reads as wide-reads
+use Rattle.words.specs.Words.{wordAt}
+use Rattle.words.proofs.word.Statement.{statement}
+use Rattle.words.proofs.word.Tie as tie
+use Rattle.words.proofs.word.Reads as reads
+use Rattle.words.proofs.word.Lts as lts
+use Rattle.words.proofs.wide.Reads as wide-reads
 
 -- src/lib.rt:28:18
 shared-slice-read-wide : tie.Need-shared-slice-read-wide
