@@ -1,14 +1,15 @@
--- Every starred edge of document 01 holds.
+-- Every starred edge of document 01 holds, bad input gets the answer that is due, and the bytes of the tables say what document 01 has.
 use Prim.Native.Nat.{ℕ, _<_}
 use native.Mathlib.Omega.{arith}
-use mathlib.Core.List.{List, map}
+use mathlib.Core.List.{List, [], _∷_, _++_, map}
 use lib.Dec.{lit<}
 use mathlib.Core.Path.{_≡_, refl}
 use Rattle.outcome.specs.declared.Outcome.the-variants.{Accepted}
 use Rattle.outcome.specs.Tests.{first, each}
 use Rattle.words.specs.Words.{wordAt}
 use Rattle.ppda.specs.Sums.{sign, sum, sumTo, leastTo}
-use Rattle.ppda.specs.Rules.{fits, overRow}
+use Rattle.ppda.specs.Rules.{fits, overRow, rule, one, two}
+use Rattle.ppda.specs.W.{w}
 use Rattle.ppda.specs.Equations.{f, meanSide}
 use Rattle.ppda.specs.Live.{mark, alive, Live}
 use Rattle.ppda.specs.Margin.{share, shareAt, margin}
@@ -24,8 +25,8 @@ use Rattle.certificate.specs.Verdict as verdict
 use Rattle.delivery.specs.Layout.{eachEntry, eachRow, isDue, inRange, upperRecords, lowerRecords, meanRecords, layoutTests}
 use Rattle.inequalities.specs.Inequalities.{deadTest, upperTest, belowTest, lowerTest, meanTest, deadTests, upperTests, belowTests, lowerTests, meanTests}
 use Rattle.certificate.specs.Verdict.{numberTests, shapedTests, deliveryTests}
-use Rattle.certificate.specs.Margin.{marginOf}
-use Rattle.certificate.specs.Edges.{zToZ, AllHold, edges, badInputs}
+use Rattle.certificate.specs.Margin.{marginOf, shownMargin}
+use Rattle.certificate.specs.Edges.{zToZ, AllHold, wDelivery, said, edges, answered, dueTo, badInputs, failTwice, placesAndEnds, greatest, lastUpper}
 use Rattle.ppda.proofs.Live.{live-by-rounds}
 use Rattle.model.proofs.Accepted.{model-accepted, is-model}
 
@@ -38,7 +39,7 @@ dead b p z q a hp hz hq e l =
 
 -- The whole table, by computation.
 pub edges-hold : AllHold edges
-unfolding first each wordAt sign sum sumTo leastTo fits overRow f meanSide mark alive share shareAt margin recordsOf field weight greatestTo statesOf symbolsOf ruleOf listTo rulesOf rowOf rowSum wholeRecords rangeAt unusedAt weightAt ascends recordTests rowTests modelTests modelVerdict byteOf valueOf meansFrom recordsIn longAs lowersOrMeans shapeOf uppersOf lowersOf meansOf eachEntry eachRow isDue inRange layout.recordTests deadTest upperTest belowTest lowerTest meanTest upperRecords lowerRecords meanRecords deadTests upperTests belowTests lowerTests meanTests layoutTests numberTests shapedTests deliveryTests verdict.verdict marginOf
+unfolding first each wordAt sign sum sumTo leastTo fits overRow f meanSide mark alive share shareAt margin recordsOf field weight greatestTo statesOf symbolsOf ruleOf listTo rulesOf rowOf rowSum wholeRecords rangeAt unusedAt weightAt ascends recordTests rowTests modelTests modelVerdict byteOf valueOf meansFrom recordsIn longAs lowersOrMeans shapeOf uppersOf lowersOf meansOf eachEntry eachRow isDue inRange layout.recordTests deadTest upperTest belowTest lowerTest meanTest upperRecords lowerRecords meanRecords deadTests upperTests belowTests lowerTests meanTests layoutTests numberTests shapedTests deliveryTests verdict.verdict marginOf shownMargin
 edges-hold = (
   refl,
   (
@@ -77,7 +78,43 @@ edges-hold = (
   ),
 )
 
--- Bad input gets the outcome that is due, by computation.
-pub bad-inputs-refused : map (λ c. verdict.verdict (c .model) (c .delivery)) badInputs ≡ map (λ c. c .due) badInputs
-unfolding first each wordAt sign sum sumTo leastTo fits overRow f meanSide mark alive share shareAt margin recordsOf field weight greatestTo statesOf symbolsOf ruleOf listTo rulesOf rowOf rowSum wholeRecords rangeAt unusedAt weightAt ascends recordTests rowTests modelTests modelVerdict byteOf valueOf meansFrom recordsIn longAs lowersOrMeans shapeOf uppersOf lowersOf meansOf eachEntry eachRow isDue inRange layout.recordTests deadTest upperTest belowTest lowerTest meanTest upperRecords lowerRecords meanRecords deadTests upperTests belowTests lowerTests meanTests layoutTests numberTests shapedTests deliveryTests verdict.verdict marginOf
-bad-inputs-refused = refl
+-- Bad input gets the answer that is due.
+pub bad-inputs-answered : map answered badInputs ≡ map dueTo badInputs
+unfolding first each wordAt sign sum sumTo leastTo fits overRow f meanSide mark alive share shareAt margin recordsOf field weight greatestTo statesOf symbolsOf ruleOf listTo rulesOf rowOf rowSum wholeRecords rangeAt unusedAt weightAt ascends recordTests rowTests modelTests modelVerdict byteOf valueOf meansFrom recordsIn longAs lowersOrMeans shapeOf uppersOf lowersOf meansOf eachEntry eachRow isDue inRange layout.recordTests deadTest upperTest belowTest lowerTest meanTest upperRecords lowerRecords meanRecords deadTests upperTests belowTests lowerTests meanTests layoutTests numberTests shapedTests deliveryTests verdict.verdict marginOf shownMargin
+bad-inputs-answered = refl
+
+-- So do files that fail twice.
+pub fail-twice-answered : map answered failTwice ≡ map dueTo failTwice
+unfolding first each wordAt sign sum sumTo leastTo fits overRow f meanSide mark alive share shareAt margin recordsOf field weight greatestTo statesOf symbolsOf ruleOf listTo rulesOf rowOf rowSum wholeRecords rangeAt unusedAt weightAt ascends recordTests rowTests modelTests modelVerdict byteOf valueOf meansFrom recordsIn longAs lowersOrMeans shapeOf uppersOf lowersOf meansOf eachEntry eachRow isDue inRange layout.recordTests deadTest upperTest belowTest lowerTest meanTest upperRecords lowerRecords meanRecords deadTests upperTests belowTests lowerTests meanTests layoutTests numberTests shapedTests deliveryTests verdict.verdict marginOf shownMargin
+fail-twice-answered = refl
+
+-- So do the ends of ranges and later places.
+pub places-and-ends-answered : map answered placesAndEnds ≡ map dueTo placesAndEnds
+unfolding first each wordAt sign sum sumTo leastTo fits overRow f meanSide mark alive share shareAt margin recordsOf field weight greatestTo statesOf symbolsOf ruleOf listTo rulesOf rowOf rowSum wholeRecords rangeAt unusedAt weightAt ascends recordTests rowTests modelTests modelVerdict byteOf valueOf meansFrom recordsIn longAs lowersOrMeans shapeOf uppersOf lowersOf meansOf eachEntry eachRow isDue inRange layout.recordTests deadTest upperTest belowTest lowerTest meanTest upperRecords lowerRecords meanRecords deadTests upperTests belowTests lowerTests meanTests layoutTests numberTests shapedTests deliveryTests verdict.verdict marginOf shownMargin
+places-and-ends-answered = refl
+
+-- So does the greatest record.
+pub greatest-answered : map answered greatest ≡ map dueTo greatest
+unfolding first each wordAt sign sum sumTo leastTo fits overRow f meanSide mark alive share shareAt margin recordsOf field weight greatestTo statesOf symbolsOf ruleOf listTo rulesOf rowOf rowSum wholeRecords rangeAt unusedAt weightAt ascends recordTests rowTests modelTests modelVerdict byteOf valueOf meansFrom recordsIn longAs lowersOrMeans shapeOf uppersOf lowersOf meansOf eachEntry eachRow isDue inRange layout.recordTests deadTest upperTest belowTest lowerTest meanTest upperRecords lowerRecords meanRecords deadTests upperTests belowTests lowerTests meanTests layoutTests numberTests shapedTests deliveryTests verdict.verdict marginOf shownMargin
+greatest-answered = refl
+
+-- So does the last upper of two states and two symbols.
+pub last-upper-answered : map answered lastUpper ≡ map dueTo lastUpper
+unfolding first each wordAt sign sum sumTo leastTo fits overRow f meanSide mark alive share shareAt margin recordsOf field weight greatestTo statesOf symbolsOf ruleOf listTo rulesOf rowOf rowSum wholeRecords rangeAt unusedAt weightAt ascends recordTests rowTests modelTests modelVerdict byteOf valueOf meansFrom recordsIn longAs lowersOrMeans shapeOf uppersOf lowersOf meansOf eachEntry eachRow isDue inRange layout.recordTests deadTest upperTest belowTest lowerTest meanTest upperRecords lowerRecords meanRecords deadTests upperTests belowTests lowerTests meanTests layoutTests numberTests shapedTests deliveryTests verdict.verdict marginOf shownMargin
+last-upper-answered = refl
+
+-- The records of two rules, with different symbols pushed.
+pub rules-said : rulesOf (said 1 2 3 2 4 5 65536 ++ said 1 2 3 1 4 0 7) ≡ rule 1 2 3 (two 4 5) 65536 ∷ rule 1 2 3 (one 4) 7 ∷ []
+unfolding rulesOf listTo ruleOf recordsOf field weight wordAt
+rules-said = refl
+
+-- The forty bytes of W say the rules of W.
+pub w-said : rulesOf wFile ≡ w
+unfolding rulesOf listTo ruleOf recordsOf field weight wordAt
+w-said = refl
+
+-- The delivery of the table has document 01's numbers.
+pub w-numbers : listTo (valueOf (wDelivery 524288 512)) 10
+    ≡ 655360 ∷ 524288 ∷ 0 ∷ 1179648 ∷ 524288 ∷ 393216 ∷ 0 ∷ 1048576 ∷ 512 ∷ 256 ∷ []
+unfolding listTo valueOf wordAt
+w-numbers = refl

@@ -1,22 +1,33 @@
--- The starred edges of document 01 ("Edges"), as one table of cases over the definitions; and a second table, of bad input.
-use Prim.Native.Nat.{ℕ, _/_, _%_, _^_}
+-- The starred edges of document 01 ("Edges"), as one table of cases over the definitions; and tables of bad input, of files that fail twice, and
+-- of the ends of ranges. Outcomes stand by document 01's numbers.
+use Prim.Native.Nat.{ℕ, _/_, _%_}
 use mathlib.Core.List.{List, [], _∷_, _++_}
 use mathlib.Core.Path.{_≡_}
-use lib.IntN.{pos, negsuc}
+use lib.IntN.{ℤ, pos, negsuc}
 use lib.ListN.{take}
 use Rattle.outcome.specs.declared.Outcome.{Outcome}
 use Rattle.outcome.specs.declared.Outcome.the-variants.{Accepted, Refused}
-use Rattle.outcome.specs.declared.Reason.{Reason}
-use Rattle.outcome.specs.declared.Reason.the-variants.{ModelLength, OutOfRange, UnusedNotZero, WeightOutOfRange, NotAscending, RowSumWrong, NoShape, NotDue, ValueOutOfRange, DeadNotZero, UpperTooSmall, LowerAboveUpper, LowerTooLarge, MeanTooSmall}
+use Rattle.outcome.specs.Reasons.{numberOf}
 use Rattle.ppda.specs.Live.{Live}
 use Rattle.model.specs.Rules.{rulesOf}
 use Rattle.model.specs.W.{wFile}
+use Rattle.certificate.specs.declared.answer.Margin.the-variants.{Shown}
 use Rattle.certificate.specs.Verdict.{verdict}
-use Rattle.certificate.specs.Margin.{marginOf}
+use Rattle.certificate.specs.Margin.{shownMargin}
 
--- What a case claims of a model and a delivery: the verdict, the margin, or that an entry of the model is dead.
+-- An outcome by document 01's numbers.
+pub data Answer : Type 0 where
+  accepted : Answer
+  refused : (number place : ℕ) (shortfall : ℤ) → Answer
+
+abbrev pub answerOf : Outcome → Answer
+answerOf Accepted = accepted
+answerOf (Refused r i k) = refused (numberOf r) i k
+
+-- What a case claims of a model and a delivery: the verdict, the margin shown, or that an entry of the model is dead: no run empties the
+-- stack there.
 pub data Claim : Type 0 where
-  verdictIs : (o : Outcome) → Claim
+  verdictIs : (o : Answer) → Claim
   marginIs : (m : ℕ) → Claim
   isDead : (p z q : ℕ) → Claim
 
@@ -26,8 +37,8 @@ pub record Case : Type 0 where
   pub claim : Claim
 
 abbrev pub Claimed : List ℕ → List ℕ → Claim → Type 0
-Claimed b d (verdictIs o) = verdict b d ≡ o
-Claimed b d (marginIs m) = marginOf b d ≡ m
+Claimed b d (verdictIs o) = answerOf (verdict b d) ≡ o
+Claimed b d (marginIs m) = shownMargin b d ≡ Shown m
 Claimed b d (isDead p z q) = Live (rulesOf b) p z q → ⊥
 
 -- Every case of the table holds.
@@ -38,123 +49,164 @@ AllHold (c ∷ cs) = Claimed (c .model) (c .delivery) (c .claim) × AllHold cs
 abbrev pub case : List ℕ → List ℕ → Claim → Case
 case b d k = record { model = b; delivery = d; claim = k }
 
--- A number as four bytes, low byte first, and a record of a delivery: kind, p, Z, q, value.
+-- A number as four bytes, low byte first; a record of a model: p Z q L Y X and the weight; a record of a delivery: kind, p, Z, q and the value.
 abbrev pub fourBytes : ℕ → List ℕ
 fourBytes n = n % 256 ∷ n / 256 % 256 ∷ n / 65536 % 256 ∷ n / 16777216 ∷ []
+
+abbrev pub said : ℕ → ℕ → ℕ → ℕ → ℕ → ℕ → ℕ → List ℕ
+said p z q l y x k = p ∷ z ∷ q ∷ l ∷ y ∷ x ∷ fourBytes k
 
 abbrev pub line : ℕ → ℕ → ℕ → ℕ → ℕ → List ℕ
 line k p z q v = k ∷ p ∷ z ∷ q ∷ fourBytes v
 
--- The delivery of document 01 for W, with the second upper and the first mean steps left open.
-abbrev pub wDelivery : ℕ → ℕ → List ℕ
-wDelivery u r =
-    line 85 0 0 0 655360 ++ (line 85 0 0 1 u ++ (line 85 1 0 0 0 ++ (line 85 1 0 1 1179648
-    ++ (line 76 0 0 0 524288 ++ (line 76 0 0 1 393216 ++ (line 76 1 0 0 0 ++ (line 76 1 0 1 1048576
+-- A delivery of shape ULR for W, with the uppers of (0, 0, 1) and (1, 0, 0), the lowers of (0, 0, 0), (1, 0, 0) and (1, 0, 1), and the
+-- first mean steps left open; and that of document 01, with the second upper and the first mean steps left open.
+abbrev pub wOther : ℕ → ℕ → ℕ → ℕ → ℕ → ℕ → List ℕ
+wOther u v k l m r =
+    line 85 0 0 0 655360 ++ (line 85 0 0 1 u ++ (line 85 1 0 0 v ++ (line 85 1 0 1 1179648
+    ++ (line 76 0 0 0 k ++ (line 76 0 0 1 393216 ++ (line 76 1 0 0 l ++ (line 76 1 0 1 m
     ++ (line 82 0 0 0 r ++ line 82 1 0 0 256))))))))
 
--- One state and one symbol: a record that pushes nothing and one that pushes two, with these weights.
-abbrev pub oneState : ℕ → ℕ → List ℕ
-oneState a b = 0 ∷ 0 ∷ 0 ∷ 0 ∷ 0 ∷ 0 ∷ (fourBytes a ++ (0 ∷ 0 ∷ 0 ∷ 2 ∷ 0 ∷ 0 ∷ fourBytes b))
+abbrev pub wDelivery : ℕ → ℕ → List ℕ
+wDelivery u r = wOther u 0 524288 0 1048576 r
 
--- One state and one symbol: Z to Z.
+-- One state and one symbol: a record that pushes nothing and one that pushes two, with these weights; one that pushes nothing; Z to Z.
+abbrev pub oneState : ℕ → ℕ → List ℕ
+oneState a b = said 0 0 0 0 0 0 a ++ said 0 0 0 2 0 0 b
+
+abbrev pub oneRule : ℕ → List ℕ
+oneRule k = said 0 0 0 0 0 0 k
+
 abbrev pub zToZ : List ℕ
-zToZ = 0 ∷ 0 ∷ 0 ∷ 1 ∷ 0 ∷ 0 ∷ fourBytes 65536
+zToZ = said 0 0 0 1 0 0 65536
 
 -- The starred edges, in the order of document 01. `negsuc n` is −(n + 1).
 abbrev pub edges : List Case
 edges =
-    case wFile (wDelivery 524288 512) (verdictIs Accepted)
+    case wFile (wDelivery 524288 512) (verdictIs accepted)
     ∷ case wFile (wDelivery 524288 512) (marginIs 45875)
     ∷ case wFile (wDelivery 524288 512) (isDead 1 0 0)
-    ∷ case wFile (wDelivery 466034 512) (verdictIs Accepted)
-    ∷ case wFile (wDelivery 466033 512) (verdictIs (Refused UpperTooSmall 1 (negsuc 30064771071)))
-    ∷ case wFile (wDelivery 524288 486) (verdictIs Accepted)
-    ∷ case wFile (wDelivery 524288 485) (verdictIs (Refused MeanTooSmall 8 (negsuc 2147483647)))
-    ∷ case (oneState 49152 16384) (line 85 0 0 0 1048576 ++ line 82 0 0 0 512) (verdictIs Accepted)
-    ∷ case (oneState 49152 16384) (line 85 0 0 0 1048576 ++ line 82 0 0 0 511) (verdictIs (Refused MeanTooSmall 1 (negsuc 34359738367)))
-    ∷ case (oneState 49152 16384) (line 85 0 0 0 1048576 ++ line 76 0 0 0 0) (verdictIs (Refused UpperTooSmall 0 (pos 0)))
-    ∷ case (oneState 32768 32768) (line 85 0 0 0 1048576) (verdictIs Accepted)
-    ∷ case (oneState 16384 49152) (line 85 0 0 0 524288 ++ line 76 0 0 0 1048576) (verdictIs (Refused LowerAboveUpper 1 (pos 0)))
+    ∷ case wFile (wDelivery 466034 512) (verdictIs accepted)
+    ∷ case wFile (wDelivery 466033 512) (verdictIs (refused 24 1 (negsuc 30064771071)))
+    ∷ case wFile (wDelivery 524288 486) (verdictIs accepted)
+    ∷ case wFile (wDelivery 524288 485) (verdictIs (refused 27 8 (negsuc 2147483647)))
+    ∷ case (oneState 49152 16384) (line 85 0 0 0 1048576 ++ line 82 0 0 0 512) (verdictIs accepted)
+    ∷ case (oneState 49152 16384) (line 85 0 0 0 1048576 ++ line 82 0 0 0 511) (verdictIs (refused 27 1 (negsuc 34359738367)))
+    ∷ case (oneState 49152 16384) (line 85 0 0 0 1048576 ++ line 76 0 0 0 0) (verdictIs (refused 24 0 (pos 0)))
+    ∷ case (oneState 32768 32768) (line 85 0 0 0 1048576) (verdictIs accepted)
+    ∷ case (oneState 16384 49152) (line 85 0 0 0 524288 ++ line 76 0 0 0 1048576) (verdictIs (refused 25 1 (pos 0)))
     ∷ case zToZ [] (isDead 0 0 0)
     ∷ []
 
--- Model records: p Z q L Y X and the weight.
-abbrev pub rule : ℕ → ℕ → ℕ → ℕ → ℕ → ℕ → ℕ → List ℕ
-rule p z q l y x k = p ∷ z ∷ q ∷ l ∷ y ∷ x ∷ fourBytes k
-
--- One state and one symbol: a record that pushes nothing, with this weight.
-abbrev pub oneRule : ℕ → List ℕ
-oneRule k = rule 0 0 0 0 0 0 k
-
--- Two files and the outcome that is due.
+-- Two files and the answer that is due.
 pub record Input : Type 0 where
   pub model : List ℕ
   pub delivery : List ℕ
-  pub due : Outcome
+  pub due : Answer
 
-abbrev pub input : List ℕ → List ℕ → Outcome → Input
+abbrev pub input : List ℕ → List ℕ → Answer → Input
 input b d o = record { model = b; delivery = d; due = o }
 
 -- A refusal that misses no inequality.
-abbrev pub refusedAt : Reason → ℕ → Outcome
-refusedAt r i = Refused r i (pos 0)
+abbrev pub refusedAt : ℕ → ℕ → Answer
+refusedAt n i = refused n i (pos 0)
 
--- The delivery of document 01 for W, with the second upper, two lowers and the first mean steps left open.
-abbrev pub wLowered : ℕ → ℕ → ℕ → ℕ → List ℕ
-wLowered u a b r =
-    line 85 0 0 0 655360 ++ (line 85 0 0 1 u ++ (line 85 1 0 0 0 ++ (line 85 1 0 1 1179648
-    ++ (line 76 0 0 0 a ++ (line 76 0 0 1 393216 ++ (line 76 1 0 0 b ++ (line 76 1 0 1 1048576
-    ++ (line 82 0 0 0 r ++ line 82 1 0 0 256))))))))
+-- The answer to an input, and the answer that is due to it.
+abbrev pub answered : Input → Answer
+answered c = answerOf (verdict (c .model) (c .delivery))
 
--- Bad input: each reason of the files with its place. Lengths: none, a byte short, a byte long. Each number of a model record out of range,
--- unused symbols, weights, order, a row's sum. Lengths of a delivery, each byte of a record, values, the shapes of one state, a dead entry.
--- Then files that fail twice, which tell the order: each reason against the next, record by record, and block by block.
+abbrev pub dueTo : Input → Answer
+dueTo c = c .due
+
+-- Bad input, each beside what is just right. Lengths: none, a byte short, a byte long. Each number of a model record out of range, unused
+-- symbols, weights, order, a row's sum. Lengths of a delivery, each byte of a record, values, the shapes of one state, a dead entry.
 abbrev pub badInputs : List Input
 badInputs =
-    input [] [] (refusedAt ModelLength 0)
-    ∷ input (take 39 wFile) [] (refusedAt ModelLength 0)
-    ∷ input (wFile ++ (0 ∷ [])) [] (refusedAt ModelLength 0)
-    ∷ input (rule 8 0 0 0 0 0 65536) [] (refusedAt OutOfRange 0)
-    ∷ input (rule 0 16 0 0 0 0 65536) [] (refusedAt OutOfRange 0)
-    ∷ input (rule 0 0 8 0 0 0 65536) [] (refusedAt OutOfRange 0)
-    ∷ input (rule 0 0 0 3 0 0 65536) [] (refusedAt OutOfRange 0)
-    ∷ input (rule 0 0 0 2 16 0 65536) [] (refusedAt OutOfRange 0)
-    ∷ input (rule 0 0 0 2 0 16 65536) [] (refusedAt OutOfRange 0)
-    ∷ input (rule 0 0 0 0 16 1 0) [] (refusedAt OutOfRange 0)
-    ∷ input (rule 0 0 0 0 1 0 65536) [] (refusedAt UnusedNotZero 0)
-    ∷ input (rule 0 0 0 1 0 1 65536) [] (refusedAt UnusedNotZero 0)
-    ∷ input (oneRule 0) [] (refusedAt WeightOutOfRange 0)
-    ∷ input (oneRule 65537) [] (refusedAt WeightOutOfRange 0)
-    ∷ input (oneRule 32768 ++ oneRule 32768) [] (refusedAt NotAscending 1)
-    ∷ input (rule 0 0 0 1 0 0 32768 ++ oneRule 32768) [] (refusedAt NotAscending 1)
-    ∷ input (oneRule 65535) [] (refusedAt RowSumWrong 0)
-    ∷ input (oneRule 65536 ++ rule 0 1 0 0 0 0 65535) [] (refusedAt RowSumWrong 1)
-    ∷ input (oneRule 65536) [] (refusedAt NoShape 0)
-    ∷ input (oneRule 65536) (take 7 (line 85 0 0 0 1048576)) (refusedAt NoShape 0)
-    ∷ input (oneRule 65536) (line 85 0 0 0 1048576 ++ (0 ∷ [])) (refusedAt NoShape 0)
-    ∷ input (oneRule 65536) (line 76 0 0 0 1048576) (refusedAt NotDue 0)
-    ∷ input (oneRule 65536) (line 85 1 0 0 1048576) (refusedAt NotDue 0)
-    ∷ input (oneRule 65536) (line 85 0 1 0 1048576) (refusedAt NotDue 0)
-    ∷ input (oneRule 65536) (line 85 0 0 1 1048576) (refusedAt NotDue 0)
-    ∷ input (oneRule 65536) (line 85 0 0 0 2097152) Accepted
-    ∷ input (oneRule 65536) (line 85 0 0 0 2097153) (refusedAt ValueOutOfRange 0)
-    ∷ input (oneRule 65536) (line 85 0 0 0 1048577 ++ line 76 0 0 0 2097153) (refusedAt ValueOutOfRange 1)
-    ∷ input (oneRule 65536) (line 85 0 0 0 1048577 ++ line 76 0 0 0 256) Accepted
-    ∷ input (oneRule 65536) (line 85 0 0 0 1048577 ++ line 82 0 0 0 255) (refusedAt ValueOutOfRange 1)
-    ∷ input (oneRule 65536) (line 85 0 0 0 1048577 ++ line 82 0 0 0 256) Accepted
-    ∷ input (oneRule 65536) (line 85 0 0 0 1048577 ++ line 82 0 0 0 4194305) (refusedAt ValueOutOfRange 1)
-    ∷ input (oneRule 65536) (line 85 0 0 0 1048577 ++ line 0 0 0 0 256) (refusedAt NotDue 1)
-    ∷ input zToZ (line 85 0 0 0 1) (refusedAt DeadNotZero 0)
-    ∷ input zToZ (line 85 0 0 0 0 ++ line 76 0 0 0 1) (refusedAt DeadNotZero 1)
-    ∷ input (oneRule 65536) (line 85 0 0 0 1048577 ++ line 76 0 0 0 1048577) (Refused LowerTooLarge 1 (negsuc 68719476735))
-    ∷ input (rule 0 0 0 0 1 0 0) [] (refusedAt UnusedNotZero 0)
-    ∷ input (oneRule 32768 ++ oneRule 0) [] (refusedAt WeightOutOfRange 1)
-    ∷ input (oneRule 32768 ++ (oneRule 32768 ++ rule 8 0 0 0 0 0 65536)) [] (refusedAt NotAscending 1)
-    ∷ input (oneRule 65535) (line 85 0 0 0 1048576) (refusedAt RowSumWrong 0)
-    ∷ input (oneRule 65536) (line 76 0 0 0 2097153) (refusedAt NotDue 0)
-    ∷ input (oneRule 65536) (line 85 0 0 0 2097153 ++ line 76 1 0 0 0) (refusedAt ValueOutOfRange 0)
-    ∷ input wFile (wLowered 466033 524288 1 512) (refusedAt DeadNotZero 6)
-    ∷ input wFile (wLowered 466033 655361 0 512) (Refused UpperTooSmall 1 (negsuc 30064771071))
-    ∷ input (oneRule 65536) (line 85 0 0 0 1048577 ++ line 76 0 0 0 1048578) (refusedAt LowerAboveUpper 1)
-    ∷ input wFile (wLowered 524288 655360 0 485) (Refused LowerTooLarge 4 (negsuc 1970324836974591))
+    input [] [] (refusedAt 10 0)
+    ∷ input (take 39 wFile) [] (refusedAt 10 0)
+    ∷ input (wFile ++ (0 ∷ [])) [] (refusedAt 10 0)
+    ∷ input (said 8 0 0 0 0 0 65536) [] (refusedAt 11 0)
+    ∷ input (said 0 16 0 0 0 0 65536) [] (refusedAt 11 0)
+    ∷ input (said 0 0 8 0 0 0 65536) [] (refusedAt 11 0)
+    ∷ input (said 0 0 0 3 0 0 65536) [] (refusedAt 11 0)
+    ∷ input (said 0 0 0 2 16 0 65536) [] (refusedAt 11 0)
+    ∷ input (said 0 0 0 2 0 16 65536) [] (refusedAt 11 0)
+    ∷ input (said 0 0 0 0 16 1 0) [] (refusedAt 11 0)
+    ∷ input (said 0 0 0 0 1 0 65536) [] (refusedAt 12 0)
+    ∷ input (said 0 0 0 1 0 1 65536) [] (refusedAt 12 0)
+    ∷ input (oneRule 0) [] (refusedAt 13 0)
+    ∷ input (oneRule 65537) [] (refusedAt 13 0)
+    ∷ input (oneRule 32768 ++ oneRule 32768) [] (refusedAt 14 1)
+    ∷ input (said 0 0 0 1 0 0 32768 ++ oneRule 32768) [] (refusedAt 14 1)
+    ∷ input (oneRule 65535) [] (refusedAt 15 0)
+    ∷ input (oneRule 65536 ++ said 0 1 0 0 0 0 65535) [] (refusedAt 15 1)
+    ∷ input (oneRule 65536) [] (refusedAt 20 0)
+    ∷ input (oneRule 65536) (take 7 (line 85 0 0 0 1048576)) (refusedAt 20 0)
+    ∷ input (oneRule 65536) (line 85 0 0 0 1048576 ++ (0 ∷ [])) (refusedAt 20 0)
+    ∷ input (oneRule 65536) (line 76 0 0 0 1048576) (refusedAt 21 0)
+    ∷ input (oneRule 65536) (line 85 1 0 0 1048576) (refusedAt 21 0)
+    ∷ input (oneRule 65536) (line 85 0 1 0 1048576) (refusedAt 21 0)
+    ∷ input (oneRule 65536) (line 85 0 0 1 1048576) (refusedAt 21 0)
+    ∷ input (oneRule 65536) (line 85 0 0 0 2097152) accepted
+    ∷ input (oneRule 65536) (line 85 0 0 0 2097153) (refusedAt 22 0)
+    ∷ input (oneRule 65536) (line 85 0 0 0 1048577 ++ line 76 0 0 0 2097153) (refusedAt 22 1)
+    ∷ input (oneRule 65536) (line 85 0 0 0 1048577 ++ line 76 0 0 0 256) accepted
+    ∷ input (oneRule 65536) (line 85 0 0 0 1048577 ++ line 82 0 0 0 255) (refusedAt 22 1)
+    ∷ input (oneRule 65536) (line 85 0 0 0 1048577 ++ line 82 0 0 0 256) accepted
+    ∷ input (oneRule 65536) (line 85 0 0 0 1048577 ++ line 82 0 0 0 4194305) (refusedAt 22 1)
+    ∷ input (oneRule 65536) (line 85 0 0 0 1048577 ++ line 0 0 0 0 256) (refusedAt 21 1)
+    ∷ input zToZ (line 85 0 0 0 1) (refusedAt 23 0)
+    ∷ input zToZ (line 85 0 0 0 0 ++ line 76 0 0 0 1) (refusedAt 23 1)
+    ∷ input (oneRule 65536) (line 85 0 0 0 1048577 ++ line 76 0 0 0 1048577) (refused 26 1 (negsuc 68719476735))
+    ∷ []
+
+-- Files that fail twice: the first failure in the fixed order is named.
+abbrev pub failTwice : List Input
+failTwice =
+    input (said 0 0 0 0 1 0 0) [] (refusedAt 12 0)
+    ∷ input (oneRule 32768 ++ oneRule 0) [] (refusedAt 13 1)
+    ∷ input (oneRule 0 ++ said 8 0 0 0 0 0 1) [] (refusedAt 13 0)
+    ∷ input (oneRule 32768 ++ (oneRule 32768 ++ said 8 0 0 0 0 0 1)) [] (refusedAt 14 1)
+    ∷ input (oneRule 65535) (line 85 0 0 0 1048576) (refusedAt 15 0)
+    ∷ input (oneRule 65536) (line 76 0 0 0 2097153) (refusedAt 21 0)
+    ∷ input (oneRule 65536) (line 85 0 0 0 2097153 ++ line 76 1 0 0 0) (refusedAt 22 0)
+    ∷ input wFile (wOther 524288 1 524288 1 1048576 512) (refusedAt 23 2)
+    ∷ input wFile (wOther 466033 0 524288 1 1048576 512) (refusedAt 23 6)
+    ∷ input wFile (wOther 466033 0 655361 0 1048576 512) (refused 24 1 (negsuc 30064771071))
+    ∷ input wFile (wOther 524288 0 655360 0 1179649 512) (refusedAt 25 7)
+    ∷ input wFile (wOther 524288 0 524288 0 1048577 485) (refused 26 7 (negsuc 68719476735))
+    ∷ []
+
+-- The ends of ranges, the sizes that each field makes, and places in later rows and blocks.
+abbrev pub placesAndEnds : List Input
+placesAndEnds =
+    input (oneRule 65535 ++ said 0 0 0 2 0 0 1) [] (refusedAt 20 0)
+    ∷ input (said 0 0 0 2 0 0 32768 ++ said 0 0 0 2 0 1 32768) [] (refusedAt 15 1)
+    ∷ input (said 0 0 0 2 0 1 32768 ++ said 0 0 0 2 1 0 32768) [] (refusedAt 15 1)
+    ∷ input (said 0 0 1 0 0 0 65536) [] (refusedAt 15 1)
+    ∷ input (said 0 0 0 1 1 0 65536) [] (refusedAt 15 1)
+    ∷ input (said 0 0 0 2 0 1 65536) [] (refusedAt 15 1)
+    ∷ input (said 0 0 1 0 0 0 65536 ++ said 0 2 0 0 0 0 65536) [] (refusedAt 15 1)
+    ∷ input (said 0 0 1 0 0 0 65536 ++ (said 0 1 0 0 0 0 65536 ++ said 0 2 0 0 0 0 65536)) [] (refusedAt 15 3)
+    ∷ input (oneRule 65536) (line 85 0 0 0 1048577 ++ line 76 0 1 0 256) (refusedAt 21 1)
+    ∷ input (oneRule 65536) (line 85 0 0 0 1048577 ++ line 82 1 0 0 256) (refusedAt 21 1)
+    ∷ input (oneRule 65536) (line 85 0 0 0 1048577 ++ line 82 0 0 1 256) (refusedAt 21 1)
+    ∷ input (oneRule 65536) (line 85 0 0 0 2097152 ++ line 76 0 0 0 2097152) (refused 26 1 (negsuc 72057594037927935))
+    ∷ input (oneRule 65536) (line 85 0 0 0 1048577 ++ line 82 0 0 0 4194304) accepted
+    ∷ input wFile (wOther 524288 0 524288 1 1048576 512) (refusedAt 23 6)
+    ∷ input wFile (wOther 524288 0 655361 0 1048576 512) (refusedAt 25 4)
+    ∷ input wFile (wOther 524288 0 524288 0 1048577 512) (refused 26 7 (negsuc 68719476735))
+    ∷ []
+
+-- The greatest state and symbols, for which there are 128 rows: the first is missing.
+abbrev pub greatest : List Input
+greatest = input (said 7 15 7 2 15 15 65536) [] (refusedAt 15 0) ∷ []
+
+-- Two states and two symbols: the last of the eight uppers.
+abbrev pub lastUpper : List Input
+lastUpper =
+    input (said 0 0 0 0 0 0 65536 ++ (said 0 1 0 0 0 0 65536 ++ (said 1 0 0 0 0 0 65536 ++ said 1 1 0 0 0 0 65536)))
+    (line 85 0 0 0 0 ++ (line 85 0 0 1 0 ++ (line 85 0 1 0 0 ++ (line 85 0 1 1 0
+    ++ (line 85 1 0 0 0 ++ (line 85 1 0 1 0 ++ (line 85 1 1 0 0 ++ line 85 1 1 1 2097153)))))))
+    (refusedAt 22 7)
     ∷ []

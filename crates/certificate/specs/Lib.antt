@@ -1,5 +1,5 @@
--- A delivery beside its model (the field's term is certificate): the tests 20 to 27 in their order, what they come to in plain words, the
--- margin, the starred edges of document 01, and the tests by the rest of the file as the code takes them.
+-- A delivery with its model (the field's term is certificate): the verdict, what it comes to in plain words, the margin, the shape that is
+-- shown, and tables of edges. `Rest` serves the contracts of the code alone.
 pub mod Verdict
 pub mod Accepted
 pub mod Margin

@@ -1,4 +1,5 @@
--- The tests after those of the uppers alone, by the rest of the file: its part from record V on, which the lower and mean-step checks take.
+-- Every test of numbers after that of dead uppers, by the rest of the file: its part from record V on, which the lower and mean-step checks
+-- take. `uppersOf` reads the first V values of any bytes, so of the rest it reads the lowers.
 use Prim.Native.Nat.{ℕ, _+_, _*_, _≤_, _<_}
 use mathlib.Core.Bool.{true, cond}
 use mathlib.Core.List.{List, _++_}

@@ -1,14 +1,10 @@
--- The verdict on a delivery beside its model: document 01's list 20 to 27, top to bottom.
-use Prim.Native.Nat.{ℕ, _+_, _*_, _^_}
-use mathlib.Core.Bool.{Bool, true, not, _&&_, _||_}
+-- The verdict on a delivery with its model: the model's tests 10 to 15 first, then document 01's list 20 to 27, top to bottom.
+use Prim.Native.Nat.{ℕ, _+_}
+use mathlib.Core.Bool.{true}
 use mathlib.Core.List.{List, [], _∷_, _++_}
-use lib.Dec.{eqb, leb, ltb}
-use lib.IntN.{subℕ}
 use Rattle.outcome.specs.declared.Outcome.{Outcome}
 use Rattle.outcome.specs.declared.Reason.the-variants.{NoShape}
 use Rattle.outcome.specs.Tests.{Test, plain, first}
-use Rattle.ppda.specs.Rules.{Rule}
-use Rattle.ppda.specs.Equations.{Vector, RowVector, f, meanSide}
 use Rattle.ppda.specs.Live.{alive}
 use Rattle.model.specs.Records.{statesOf, symbolsOf}
 use Rattle.model.specs.Rules.{rulesOf}
@@ -17,7 +13,7 @@ use Rattle.delivery.specs.declared.shape.Shape.{Shape}
 use Rattle.delivery.specs.declared.shape.Shaped.{Shaped}
 use Rattle.delivery.specs.declared.shape.Shaped.the-variants.{Of, Unknown}
 use Rattle.delivery.specs.Shapes.{entriesIn, hasLowers, hasMeans, meansFrom, shapeOf}
-use Rattle.delivery.specs.Numbers.{entryAt, rowAt, uppersOf, lowersOf, meansOf}
+use Rattle.delivery.specs.Numbers.{uppersOf, lowersOf, meansOf}
 use Rattle.delivery.specs.Layout.{onlyIf, layoutTests}
 use Rattle.inequalities.specs.Inequalities.{deadTests, upperTests, belowTests, lowerTests, meanTests}
 

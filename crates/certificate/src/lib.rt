@@ -1,4 +1,4 @@
-// A delivery beside its model, in the field's term a certificate: the verdict 20 to 27, and the margin.
+// A delivery with its model, in the field's term a certificate: the verdict 10 to 15 and 20 to 27, and the margin.
 
 use answer::Margin;
 use delivery::layout;
