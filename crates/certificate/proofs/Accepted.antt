@@ -15,15 +15,19 @@ use Rattle.outcome.specs.Tests.{Test, plain, refusal, first, each, Passed, Firs
 use Rattle.outcome.proofs.Exactly.{not-lt-exactly, le-exactly, eq-exactly, both, not-exactly, and-fails, or-fails}
 use Rattle.outcome.proofs.Tests.{accepted-exactly, refused-exactly, first-failure, first-stands, passed-one, passed-append, passed-each}
 use Rattle.ppda.specs.Sums.{In}
+use Rattle.ppda.specs.Rules.{Rule, IsModel}
 use Rattle.ppda.specs.Equations.{f}
-use Rattle.ppda.specs.Live.{alive}
+use Rattle.ppda.specs.Live.{alive, Live}
 use Rattle.ppda.specs.Bounds as Bounds
 use Rattle.ppda.proofs.Lists.{in-append-cases, in-append-right}
+use Rattle.ppda.proofs.Live.{live-by-rounds}
+use Rattle.ppda.proofs.Marks.{alive-or-dead}
 use Rattle.model.specs.Records.{recordsOf, statesOf, symbolsOf}
 use Rattle.model.specs.Rules.{rulesOf}
 use Rattle.model.specs.Verdict as model
 use Rattle.model.specs.Verdict.{rowTests, modelTests, modelVerdict}
-use Rattle.model.proofs.Accepted.{model-accepted}
+use Rattle.model.specs.Accepted.{ModelFile}
+use Rattle.model.proofs.Accepted.{model-accepted, is-model}
 use Rattle.delivery.specs.declared.shape.Block.{Block}
 use Rattle.delivery.specs.declared.shape.Block.the-variants.{Uppers, Lowers, Means}
 use Rattle.delivery.specs.declared.shape.Shape.{Shape}
@@ -188,24 +192,43 @@ module _ (b : List ℕ) (s g : ℕ) (h : Shape) (d : List ℕ) where
       (says-append (says-only (hasLowers h) (says-entries (λ p z q. says-lower _ _ _)))
       (says-only (hasMeans h) (says-rows (λ p z. says-mean _ _ _)))))))
 
+-- ---- the live marks of a model by its runs
+
+module _ {m : List Rule} {s g : ℕ} (model : IsModel s g m) {p z q : ℕ} (hp : p < s) (hz : z < g) (hq : q < s) where
+  pub live-exactly : (alive m s g p z q ≡ 1) ↔ Live m p z q
+  live-exactly = live-by-rounds m s g model p z q hp hz hq
+
+  pub dead-exactly : (alive m s g p z q ≡ 0) ↔ (Live m p z q → ⊥)
+  dead-exactly = (λ e l. let h = live-exactly .1 l in omega arith, λ n. go n (alive-or-dead m s g p z q))
+    where
+      go : (Live m p z q → ⊥) → (alive m s g p z q ≡ 1) ⊎ (alive m s g p z q ≡ 0) → alive m s g p z q ≡ 0
+      go n (inl e) = absurd (n (live-exactly .0 e))
+      go n (inr e) = e
+
+-- ---- the blocks of a delivery
+
 -- Every block of a shape is right.
 record BlocksRight (b : List ℕ) (s g : ℕ) (h : Shape) (d : List ℕ) : Type 0 where
   uppers : UppersRight b s g d
   lowers : hasLowers h ≡ true → LowersRight b s g d
   means : hasMeans h ≡ true → MeansRight b s g h d
 
-module _ (b : List ℕ) (s g : ℕ) (h : Shape) (d : List ℕ) where
+module _ (b : List ℕ) (s g : ℕ) (model : IsModel s g (rulesOf b)) (h : Shape) (d : List ℕ) where
   blocks-of-passed : Passed (layoutTests s g h d ++ numberTests b s g h d) → BlocksRight b s g h d
   blocks-of-passed passed =
       let (layout, numbers) = says-append (says-layout s g h d) (says-numbers b s g h d) .exactly .0 passed in
       let (uppers, (lowers, means)) = layout in
       let (dead, (dead-lowers, (hold, (below, (lower, mean))))) = numbers in
       record {
-        uppers = record { due = uppers; dead = dead; upper = λ p z q hp hz hq. hold p z q hp hz hq .0 };
+        uppers = record {
+          due = uppers;
+          dead = λ p z q hp hz hq n. dead p z q hp hz hq (dead-exactly model hp hz hq .1 n);
+          upper = λ p z q hp hz hq. hold p z q hp hz hq .0;
+        };
         lowers = λ e. record {
           due = lowers e;
-          dead = dead-lowers e;
-          strict = λ p z q hp hz hq. hold p z q hp hz hq .1 e;
+          dead = λ p z q hp hz hq n. dead-lowers e p z q hp hz hq (dead-exactly model hp hz hq .1 n);
+          strict = λ p z q hp hz hq l. hold p z q hp hz hq .1 e (live-exactly model hp hz hq .1 l);
           below = below e;
           lower = lower e;
         };
@@ -217,33 +240,37 @@ module _ (b : List ℕ) (s g : ℕ) (h : Shape) (d : List ℕ) where
       says-append (says-layout s g h d) (says-numbers b s g h d) .exactly .1 (
         (r .uppers .due, (λ e. r .lowers e .due, λ e. r .means e .due)),
         (
-          r .uppers .dead,
+          λ p z q hp hz hq a. r .uppers .dead p z q hp hz hq (dead-exactly model hp hz hq .0 a),
           (
-            λ e. r .lowers e .dead,
+            λ e p z q hp hz hq a. r .lowers e .dead p z q hp hz hq (dead-exactly model hp hz hq .0 a),
             (
-              λ p z q hp hz hq. (r .uppers .upper p z q hp hz hq, λ e. r .lowers e .strict p z q hp hz hq),
+              λ p z q hp hz hq. (
+                r .uppers .upper p z q hp hz hq,
+                λ e a. r .lowers e .strict p z q hp hz hq (live-exactly model hp hz hq .0 a),
+              ),
               (λ e. r .lowers e .below, (λ e. r .lowers e .lower, λ e. r .means e .mean)),
             ),
           ),
         ),
       )
 
-file-of-passed : (b d : List ℕ) → Passed (deliveryTests b d) → (h : Shape) × DeliveryFile b d h
+file-of-passed : (b d : List ℕ) → ModelFile b → Passed (deliveryTests b d) → (h : Shape) × DeliveryFile b d h
 unfolding deliveryTests shapedTests
-file-of-passed b d = go (shapeOf (statesOf b) (symbolsOf b) d) refl
+file-of-passed b d m = go (shapeOf (statesOf b) (symbolsOf b) d) refl
   where
     go : (t : Shaped) → shapeOf (statesOf b) (symbolsOf b) d ≡ t → Passed (shapedTests b (statesOf b) (symbolsOf b) t d)
         → (h : Shape) × DeliveryFile b d h
     go (Of h) e passed =
-        let r = blocks-of-passed b (statesOf b) (symbolsOf b) h d passed in
+        let r = blocks-of-passed b (statesOf b) (symbolsOf b) (is-model b m) h d passed in
         (h, record { shape = e; uppers = r .uppers; lowers = r .lowers; means = r .means })
     go Unknown e passed = absurd (true≢false (passed .0))
 
-passed-of-file : (b d : List ℕ) (h : Shape) → DeliveryFile b d h → Passed (deliveryTests b d)
+passed-of-file : (b d : List ℕ) (h : Shape) → ModelFile b → DeliveryFile b d h → Passed (deliveryTests b d)
 unfolding deliveryTests shapedTests
-passed-of-file b d h r =
+passed-of-file b d h m r =
     rw (r .shape)
-    (passed-of-blocks b (statesOf b) (symbolsOf b) h d (record { uppers = r .uppers; lowers = r .lowers; means = r .means }))
+    (passed-of-blocks b (statesOf b) (symbolsOf b) (is-model b m) h d
+    (record { uppers = r .uppers; lowers = r .lowers; means = r .means }))
 
 -- ---- the verdict
 
@@ -251,11 +278,12 @@ pub delivery-accepted : (b d : List ℕ) → (verdict b d ≡ Accepted) ↔ File
 unfolding verdict modelVerdict
 delivery-accepted b d = (
   λ e. let passed = passed-append (modelTests b) (deliveryTests b d) .0 (accepted-exactly (modelTests b ++ deliveryTests b d) .0 e) in
-      let (h, r) = file-of-passed b d (passed .1) in
-      record { model = model-accepted b .0 (accepted-exactly (modelTests b) .1 (passed .0)); shaped = h; delivery = r },
+      let m = model-accepted b .0 (accepted-exactly (modelTests b) .1 (passed .0)) in
+      let (h, r) = file-of-passed b d m (passed .1) in
+      record { model = m; shaped = h; delivery = r },
   λ r. accepted-exactly (modelTests b ++ deliveryTests b d) .1
       (passed-append (modelTests b) (deliveryTests b d) .1
-      (accepted-exactly (modelTests b) .0 (model-accepted b .1 (r .model)), passed-of-file b d (r .shaped) (r .delivery))),
+      (accepted-exactly (modelTests b) .0 (model-accepted b .1 (r .model)), passed-of-file b d (r .shaped) (r .model) (r .delivery))),
 )
 
 -- A refusal is that of the first test that fails.

@@ -1,10 +1,12 @@
 -- Mission point 3 for files: what an accepted delivery says is true of the runs of its model. An accepted file makes the claims that the
 -- theorems of crate ppda take.
 use Prim.Native.Nat.{ℕ, _+_, _-_, _*_, _^_, _≤_, _<_}
-use mathlib.Core.Bool.{true}
+use native.Mathlib.Omega.{arith}
+use mathlib.Core.Bool.{Bool, true, false, cond}
 use mathlib.Core.List.{List}
-use mathlib.Core.Path.{_≡_, ap, _∙_}
-use Rattle.outcome.specs.declared.Outcome.the-variants.{Accepted}
+use mathlib.Core.Path.{_≡_, refl, ap, _∙_}
+use Rattle.outcome.specs.declared.Outcome.{Outcome}
+use Rattle.outcome.specs.declared.Outcome.the-variants.{Accepted, Refused}
 use Rattle.ppda.specs.Rules.{IsModel}
 use Rattle.ppda.specs.Chances.{chance}
 use Rattle.ppda.specs.Bounds as Bounds
@@ -16,13 +18,15 @@ use Rattle.model.specs.Records.{statesOf, symbolsOf}
 use Rattle.model.specs.Rules.{rulesOf}
 use Rattle.model.proofs.Accepted.{is-model}
 use Rattle.delivery.specs.declared.shape.Shape.{Shape}
-use Rattle.delivery.specs.declared.shape.Shaped.the-variants.{Of}
+use Rattle.delivery.specs.declared.shape.Shaped.{Shaped}
+use Rattle.delivery.specs.declared.shape.Shaped.the-variants.{Of, Unknown}
 use Rattle.delivery.specs.Shapes.{hasLowers, hasMeans, shapeOf}
 use Rattle.delivery.specs.Numbers.{uppersOf, lowersOf, meansOf}
 use Rattle.certificate.specs.Verdict.{verdict}
 use Rattle.certificate.specs.Accepted.{Filed}
-use Rattle.certificate.specs.Margin.{marginOf}
-use Rattle.certificate.proofs.Accepted.{delivery-accepted, shaped-as}
+use Rattle.certificate.specs.declared.answer.Margin.the-variants.{Shown, Absent}
+use Rattle.certificate.specs.Margin.{marginOf, shownBy, shownMargin}
+use Rattle.certificate.proofs.Accepted.{live-exactly, dead-exactly, delivery-accepted, shaped-as}
 
 -- ---- what accepted files claim
 
@@ -44,8 +48,8 @@ module _ (b d : List ℕ) (x : Filed b d) where
         lower = lowers .lower p z q hp hz hq;
         below = lowers .below p z q hp hz hq;
         range = uppers .due p z q hp hz hq .most;
-        strict = lowers .strict p z q hp hz hq;
-        dead = uppers .dead p z q hp hz hq;
+        strict = λ e. lowers .strict p z q hp hz hq (live-exactly model-of hp hz hq .0 e);
+        dead = λ e. uppers .dead p z q hp hz hq (dead-exactly model-of hp hz hq .0 e);
       }
 
   pub means-of : hasMeans (x .shaped) ≡ true
@@ -59,25 +63,42 @@ pub upper-of-files : (b d : List ℕ) → verdict b d ≡ Accepted
     → UpperHolds (rulesOf b) (statesOf b) (symbolsOf b) (uppersOf (statesOf b) (symbolsOf b) d)
 upper-of-files b d a = let x = delivery-accepted b d .0 a in upper-holds _ _ _ _ (model-of b d x) (uppers-of b d x)
 
+-- A margin is shown of an accepted delivery whose shape has lowers, and it is that of the delivery's uppers.
+shown-by : (o : Outcome) (t : Shaped) (a m : ℕ) → shownBy o t a ≡ Shown m
+    → (h : Shape) × (o ≡ Accepted) × (t ≡ Of h) × (hasLowers h ≡ true) × (a ≡ m)
+shown-by Accepted (Of h) a m e = go (hasLowers h) refl e
+  where
+    go : (t : Bool) → hasLowers h ≡ t → cond t (Shown a) Absent ≡ Shown m
+        → (k : Shape) × (Accepted ≡ Accepted) × (Of h ≡ Of k) × (hasLowers k ≡ true) × (a ≡ m)
+    go true q e = (h, refl, refl, q, cc)
+    go false q e = let z : _≡_ {A = ℕ} 0 1 = cc in absurd (omega arith)
+shown-by Accepted Unknown a m e = let z : _≡_ {A = ℕ} 0 1 = cc in absurd (omega arith)
+shown-by (Refused r i k) t a m e = let z : _≡_ {A = ℕ} 0 1 = cc in absurd (omega arith)
+
+pub shown-margin : (b d : List ℕ) (m : ℕ) → shownMargin b d ≡ Shown m
+    → (h : Shape) × (verdict b d ≡ Accepted) × (shapeOf (statesOf b) (symbolsOf b) d ≡ Of h) × (hasLowers h ≡ true) × (marginOf b d ≡ m)
+unfolding shownMargin
+shown-margin b d m = shown-by (verdict b d) (shapeOf (statesOf b) (symbolsOf b) d) (marginOf b d) m
+
 module _ (b d : List ℕ) (h : Shape) (accepted : verdict b d ≡ Accepted) (shape : shapeOf (statesOf b) (symbolsOf b) d ≡ Of h) where
   filed : Filed b d
   filed = delivery-accepted b d .0 accepted
 
-  pub lower-of-files : hasLowers h ≡ true
+  pub lower-of-shape : hasLowers h ≡ true
       → LowerHolds (rulesOf b) (statesOf b) (symbolsOf b)
       (uppersOf (statesOf b) (symbolsOf b) d) (lowersOf (statesOf b) (symbolsOf b) d) (marginOf b d)
   unfolding marginOf
-  lower-of-files has =
+  lower-of-shape has =
       lower-holds _ _ _ _ _ (model-of b d filed) (uppers-of b d filed)
       (lowers-of b d filed (ap hasLowers (shaped-as b d filed h shape) ∙ has))
 
-  -- Document 01's sentence, with m the margin shown over 2^20.
-  pub lower-as-shown-of-files : hasLowers h ≡ true → (k p z q : ℕ) → p < statesOf b → z < symbolsOf b → q < statesOf b
+  -- Document 01's sentence, with m the margin over 2^20.
+  pub lower-as-shown-of-shape : hasLowers h ≡ true → (k p z q : ℕ) → p < statesOf b → z < symbolsOf b → q < statesOf b
       → lowersOf (statesOf b) (symbolsOf b) d p z q * 65536 ^ (2 ^ k - 1) * (2 ^ 20) ^ k
       ≤ chance (rulesOf b) (2 ^ k - 1) p z q * 2 ^ 20 * (2 ^ 20) ^ k
       + (2 ^ 20 - marginOf b d) ^ k * uppersOf (statesOf b) (symbolsOf b) d p z q * 65536 ^ (2 ^ k - 1)
   unfolding marginOf
-  lower-as-shown-of-files has =
+  lower-as-shown-of-shape has =
       lower-as-shown _ _ _ _ _ (model-of b d filed) (uppers-of b d filed)
       (lowers-of b d filed (ap hasLowers (shaped-as b d filed h shape) ∙ has))
 
@@ -85,3 +106,20 @@ module _ (b d : List ℕ) (h : Shape) (accepted : verdict b d ≡ Accepted) (sha
   mean-of-files has =
       let e = shaped-as b d filed h shape in
       mean-holds _ _ _ _ _ (model-of b d filed) (uppers-of b d filed) (rw e at (means-of b d filed (ap hasMeans e ∙ has)))
+
+-- The lowers by the margin that is shown.
+module _ (b d : List ℕ) (m : ℕ) (shown : shownMargin b d ≡ Shown m) where
+  pub lower-of-files : LowerHolds (rulesOf b) (statesOf b) (symbolsOf b)
+      (uppersOf (statesOf b) (symbolsOf b) d) (lowersOf (statesOf b) (symbolsOf b) d) m
+  lower-of-files =
+      let (h, accepted, shape, has, same) = shown-margin b d m shown in
+      rw same at (lower-of-shape b d h accepted shape has)
+
+  -- Document 01's sentence, with m the margin shown over 2^20.
+  pub lower-as-shown-of-files : (k p z q : ℕ) → p < statesOf b → z < symbolsOf b → q < statesOf b
+      → lowersOf (statesOf b) (symbolsOf b) d p z q * 65536 ^ (2 ^ k - 1) * (2 ^ 20) ^ k
+      ≤ chance (rulesOf b) (2 ^ k - 1) p z q * 2 ^ 20 * (2 ^ 20) ^ k
+      + (2 ^ 20 - m) ^ k * uppersOf (statesOf b) (symbolsOf b) d p z q * 65536 ^ (2 ^ k - 1)
+  lower-as-shown-of-files =
+      let (h, accepted, shape, has, same) = shown-margin b d m shown in
+      rw same at (lower-as-shown-of-shape b d h accepted shape has)

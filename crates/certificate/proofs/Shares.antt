@@ -21,7 +21,7 @@ use Rattle.equations.proofs.Vectors.{f-same}
 use Rattle.inequalities.specs.Shares.{Strict, leastShare}
 use Rattle.certificate.specs.Verdict.{verdict}
 use Rattle.certificate.specs.Accepted.{LowersRight}
-use Rattle.certificate.proofs.Accepted.{delivery-accepted, shaped-as}
+use Rattle.certificate.proofs.Accepted.{live-exactly, delivery-accepted, shaped-as}
 
 leastTo-cong : (top : ℕ) (h k : ℕ → ℕ) (n : ℕ) → ((i : ℕ) → i < n → h i ≡ k i) → leastTo top h n ≡ leastTo top k n
 unfolding leastTo
@@ -48,4 +48,4 @@ module _ {b : List ℕ} {s g : ℕ} (d a u : List ℕ) (sized : Sized b s g) (ma
       let same = shaped-as b d x h (rw (sized .states, sized .symbols) at shape) in
       let lowers : LowersRight b s g d = rw (sized .states, sized .symbols) (x .delivery .lowers (ap hasLowers same ∙ has)) in
       rw (marks p z q hp hz hq, uppers p z q hp hz hq, f-of-uppers p z q hq) (λ live.
-      lowers .strict p z q hp hz hq (omega (arith, alive-is-bit (rulesOf b) s g p z q)))
+      lowers .strict p z q hp hz hq (live-exactly (sized-model sized) hp hz hq .0 (omega (arith, alive-is-bit (rulesOf b) s g p z q))))

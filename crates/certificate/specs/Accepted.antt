@@ -4,7 +4,7 @@ use mathlib.Core.Bool.{true}
 use mathlib.Core.List.{List}
 use mathlib.Core.Path.{_≡_}
 use Rattle.ppda.specs.Equations.{f}
-use Rattle.ppda.specs.Live.{alive}
+use Rattle.ppda.specs.Live.{Live}
 use Rattle.ppda.specs.Bounds as Bounds
 use Rattle.model.specs.Records.{statesOf, symbolsOf}
 use Rattle.model.specs.Rules.{rulesOf}
@@ -36,15 +36,15 @@ AtRows s g P = (p z : ℕ) → p < s → z < g → P p z
 -- The uppers: each record is due, a dead entry is 0 (23), and u ≥ f(u) (24).
 pub record UppersRight (b : List ℕ) (s g : ℕ) (d : List ℕ) : Type 0 where
   pub due : AtEntries s g (λ p z q. RecordDue d (entryAt s g p z q) Uppers p z q)
-  pub dead : AtEntries s g (λ p z q. alive (rulesOf b) s g p z q ≡ 0 → uppersOf s g d p z q ≡ 0)
+  pub dead : AtEntries s g (λ p z q. (Live (rulesOf b) p z q → ⊥) → uppersOf s g d p z q ≡ 0)
   pub upper : Bounds.Uppers (rulesOf b) s g (uppersOf s g d)
 
 -- The lowers: each record is due, a dead entry is 0 (23), u > f(u) at a live entry (24), l ≤ u (25) and l ≤ f(l) (26).
 pub record LowersRight (b : List ℕ) (s g : ℕ) (d : List ℕ) : Type 0 where
   pub due : AtEntries s g (λ p z q. RecordDue d (entriesIn s g + entryAt s g p z q) Lowers p z q)
-  pub dead : AtEntries s g (λ p z q. alive (rulesOf b) s g p z q ≡ 0 → lowersOf s g d p z q ≡ 0)
+  pub dead : AtEntries s g (λ p z q. (Live (rulesOf b) p z q → ⊥) → lowersOf s g d p z q ≡ 0)
   pub strict : AtEntries s g (λ p z q.
-      alive (rulesOf b) s g p z q ≡ 1 → f (rulesOf b) s (2 ^ 20) (uppersOf s g d) p z q < uppersOf s g d p z q * 2 ^ 36)
+      Live (rulesOf b) p z q → f (rulesOf b) s (2 ^ 20) (uppersOf s g d) p z q < uppersOf s g d p z q * 2 ^ 36)
   pub below : AtEntries s g (λ p z q. lowersOf s g d p z q ≤ uppersOf s g d p z q)
   pub lower : AtEntries s g (λ p z q. lowersOf s g d p z q * 2 ^ 36 ≤ f (rulesOf b) s (2 ^ 20) (lowersOf s g d) p z q)
 

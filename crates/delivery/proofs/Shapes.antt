@@ -153,6 +153,25 @@ module _ (g : ℕ) (d : List ℕ) (some : 0 < g) (long : length d ≡ 8 * record
   pub one-state-means : (shapeOf 1 g d ≡ Of UR) ↔ (byteOf d (entriesIn 1 g) 0 ≡ kindOf Lowers → ⊥)
   one-state-means = (λ e q. UL-not-UR (sym (by-kind true (eq-eqb _ _ q)) ∙ e), λ n. by-kind false (ne-eqb _ _ n))
 
+-- The other two lengths give their shape.
+pub one-state-alone : (g : ℕ) (d : List ℕ) → 0 < g → length d ≡ 8 * recordsIn 1 g U → shapeOf 1 g d ≡ Of U
+unfolding shapeOf
+one-state-alone g d some long = rw (long-exactly 1 g U d .1 long)
+
+both-longer : (g : ℕ) → 0 < g → recordsIn 1 g UL < recordsIn 1 g ULR
+unfolding recordsIn meansFrom
+both-longer g h = omega arith
+
+pub one-state-both : (g : ℕ) (d : List ℕ) → 0 < g → length d ≡ 8 * recordsIn 1 g ULR → shapeOf 1 g d ≡ Of ULR
+unfolding shapeOf
+one-state-both g d some long =
+    rw (
+      not-long 1 g U d (λ q. omega (arith, uppers-shorter g some, both-longer g some)),
+      not-long 1 g UL d (λ q. omega (arith, both-longer g some)),
+      not-long 1 g UR d (λ q. omega (arith, both-longer g some, one-state 1 g refl)),
+      long-exactly 1 g ULR d .1 long,
+    )
+
 -- ---- the choice step by step, as the code finds it
 
 module _ (s g : ℕ) (d : List ℕ) where

@@ -1,17 +1,19 @@
 -- The live marks that are shown, by the verdict on the model.
-use Prim.Native.Nat.{ℕ}
+use Prim.Native.Nat.{ℕ, _<_}
 use mathlib.Core.List.{List}
+use mathlib.Core.Logic.{_↔_}
 use mathlib.Core.Path.{_≡_}
 use lib.IntN.{ℤ}
 use lib.ListN.{replicate}
 use Rattle.outcome.specs.declared.Reason.{Reason}
 use Rattle.outcome.specs.declared.Outcome.the-variants.{Accepted, Refused}
 use Rattle.ppda.specs.Equations.{entries}
-use Rattle.ppda.specs.Live.{alive, mark}
+use Rattle.ppda.specs.Live.{alive, mark, Live}
+use Rattle.ppda.proofs.Live.{live-by-rounds}
 use Rattle.model.specs.Records.{statesOf, symbolsOf}
 use Rattle.model.specs.Rules.{rulesOf}
 use Rattle.model.specs.Verdict.{modelVerdict}
-use Rattle.model.proofs.Accepted.{model-accepted}
+use Rattle.model.proofs.Accepted.{model-accepted, is-model}
 use Rattle.equations.specs.Held.{Sized, AtMost, Same}
 use Rattle.equations.specs.Shown.{liveMark, LiveMarks}
 use Rattle.equations.proofs.Marks.{zeros-most, no-marks}
@@ -31,3 +33,10 @@ pub live-of : {b l : List ℕ} {s g : ℕ} → modelVerdict b ≡ Accepted → s
     → Same s g (entries s g l) (alive (rulesOf b) s g) → LiveMarks b l
 unfolding liveMark
 live-of {b} {l} e hs hg small same = record { small = small; marks = λ p z q hp hz hq. rw (e, ← hs, ← hg) (same p z q (rw hs hp) (rw hg hz) (rw hs hq)) }
+
+-- The marks shown of an accepted model are those of document 01: 1 where some run empties the stack.
+pub live-marks-by-runs : (b : List ℕ) → modelVerdict b ≡ Accepted → (p z q : ℕ) → p < statesOf b → z < symbolsOf b → q < statesOf b
+    → (liveMark b p z q ≡ 1) ↔ Live (rulesOf b) p z q
+unfolding liveMark
+live-marks-by-runs b e p z q hp hz hq =
+    rw e (live-by-rounds (rulesOf b) (statesOf b) (symbolsOf b) (is-model b (model-accepted b .0 e)) p z q hp hz hq)
