@@ -1,6 +1,5 @@
 -- Every starred edge of document 01 holds, bad input gets the answer that is due, and the bytes of the tables say what document 01 has.
 use Prim.Native.Nat.{ℕ, _<_}
-use native.Mathlib.Omega.{arith}
 use mathlib.Core.List.{List, [], _∷_, _++_, map}
 use lib.Dec.{lit<}
 use mathlib.Core.Path.{_≡_, refl}
@@ -27,15 +26,13 @@ use Rattle.inequalities.specs.Inequalities.{deadTest, upperTest, belowTest, low
 use Rattle.certificate.specs.Verdict.{numberTests, shapedTests, deliveryTests}
 use Rattle.certificate.specs.Margin.{marginOf, shownMargin}
 use Rattle.certificate.specs.Edges.{zToZ, AllHold, wDelivery, said, edges, answered, dueTo, badInputs, failTwice, placesAndEnds, greatest, lastUpper}
-use Rattle.ppda.proofs.Live.{live-by-rounds}
 use Rattle.model.proofs.Accepted.{model-accepted, is-model}
+use Rattle.certificate.proofs.Accepted.{dead-exactly}
 
 -- An entry of an accepted model is dead where its mark is 0.
 dead : (b : List ℕ) (p z q : ℕ) → modelVerdict b ≡ Accepted → p < statesOf b → z < symbolsOf b → q < statesOf b
     → alive (rulesOf b) (statesOf b) (symbolsOf b) p z q ≡ 0 → Live (rulesOf b) p z q → ⊥
-dead b p z q a hp hz hq e l =
-    let m = is-model b (model-accepted b .0 a) in
-    let h = live-by-rounds (rulesOf b) (statesOf b) (symbolsOf b) m p z q hp hz hq .1 l in omega arith
+dead b p z q a hp hz hq = dead-exactly (is-model b (model-accepted b .0 a)) hp hz hq .0
 
 -- The whole table, by computation.
 pub edges-hold : AllHold edges

@@ -1,7 +1,7 @@
 -- Two ways through a block: nested by state, symbol and exit, as the tests are defined, and number by number, as the code goes.
 -- Besides, the values past the first records, and the list of values that a loop fills.
 use Prim.Native.Nat.{ℕ, zero, suc, _+_, _*_, _/_, _%_, _<_}
-use native.Mathlib.Nat.{add-zero, add-suc, zero-mul, suc-mul, mod-eq-of-lt, div-eq-of-lt, mul-add-div-right, mul-add-mod-self-right}
+use native.Mathlib.Nat.{add-zero, add-suc, zero-mul, suc-mul}
 use native.Mathlib.Omega.{arith}
 use mathlib.Core.Bool.{Bool, true, false}
 use mathlib.Core.List.{List, _++_, append-nil, append-assoc}
@@ -11,6 +11,8 @@ use lib.ListN.{length, getD, set, drop, replicate}
 use lib.Seq.{getD-drop, getD-set-same, getD-set-other}
 use borrow.Author.Tests.{eqb-true, eqb-false}
 use Rattle.words.specs.Words.{wordAt}
+use Rattle.ppda.proofs.Lists.{getD-zeros}
+use Rattle.ppda.proofs.Places.{row-at}
 use Rattle.outcome.specs.Tests.{Test, each}
 use Rattle.outcome.proofs.Tests.{each-cong}
 use Rattle.delivery.specs.Records.{valueOf}
@@ -36,17 +38,10 @@ each-flat (suc n) m h =
 
 -- ---- rows and entries by their numbers
 
--- Row number p × g + z is (p, z).
-row-state : (g p z : ℕ) → z < g → (p * g + z) / g ≡ p
-row-state g p z l = mul-add-div-right {m = g} (omega arith) p z ∙ ap (λ k. p + k) (div-eq-of-lt l) ∙ add-zero p
-
-row-symbol : (g p z : ℕ) → z < g → (p * g + z) % g ≡ z
-row-symbol g p z l = mul-add-mod-self-right p g z ∙ mod-eq-of-lt l
-
 pub rows-by-number : (s g : ℕ) (h : ℕ → ℕ → List Test) → 0 < g → eachRow s g h ≡ each (s * g) (λ k. h (k / g) (k % g))
 unfolding eachRow
 rows-by-number s g h some =
-    each-cong _ _ s (λ p lp. each-cong _ _ g (λ z lz. sym (ap₂ h (row-state g p z lz) (row-symbol g p z lz))))
+    each-cong _ _ s (λ p lp. each-cong _ _ g (λ z lz. sym (ap₂ h (row-at g p z lz .0) (row-at g p z lz .1))))
     ∙ each-flat s g (λ k. h (k / g) (k % g))
 
 pub entries-by-row : (s g : ℕ) (h : ℕ → ℕ → ℕ → List Test) → 0 < g
@@ -76,13 +71,8 @@ rest-value d n i = word-past d (8 * n) (8 * i + 4) (8 * (n + i) + 4) (omega arit
 
 -- ---- the values of the first n records, one after the other
 
-zeros : (n e : ℕ) → getD {A = ℕ} (replicate n 0) e 0 ≡ 0
-zeros zero e = refl
-zeros (suc n) zero = refl
-zeros (suc n) (suc e) = zeros n e
-
 pub values-none : (d : List ℕ) → Values d 0 (replicate 1024 0)
-values-none d = record { value = λ e h. absurd (omega arith); none = λ e h. zeros 1024 e }
+values-none d = record { value = λ e h. absurd (omega arith); none = λ e h. getD-zeros 1024 e }
 
 pub values-step : {d : List ℕ} {n : ℕ} {l : List ℕ} (v : ℕ) → Values d n l → n < length l → v ≡ valueOf d n → Values d (n + 1) (set l n v)
 values-step {d} {n} {l} v before room e =

@@ -1,4 +1,4 @@
--- The tests of a delivery's layout: document 01's 20 to 22.
+-- The tests of a delivery's layout: document 01's 21 and 22.
 use Prim.Native.Nat.{ℕ, _+_}
 use mathlib.Core.Bool.{Bool, true, false, not, _&&_}
 use mathlib.Core.List.{List, [], _∷_, _++_}

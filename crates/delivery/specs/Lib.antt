@@ -1,4 +1,4 @@
--- A delivery file (document 01, "Deliveries"), in the order of the document: its records, shapes and numbers, and the tests 20 to 22.
+-- A delivery file (document 01, "Deliveries"), in the order of the document: its records, shapes and numbers, and the tests 21 and 22.
 pub mod Records
 pub mod Shapes
 pub mod Numbers

@@ -1,6 +1,6 @@
-// A delivery file: its shape, its records and the tests 20 to 22.
+// A delivery file: its shapes, its records, and the tests 21 and 22.
 
 pub mod layout; // layout.rt: the tests 21 and 22, record by record
 pub mod numbers; // numbers.rt: the numbers of a block
 pub mod record; // record.rt: one record's numbers
-pub mod shape; // shape.rt: the four shapes and the test 20
+pub mod shape; // shape.rt: the four shapes, and which of them a file has

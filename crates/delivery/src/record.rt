@@ -28,7 +28,7 @@ pub fn value_of(delivery: &[u8], i: usize) -> u64
 }
 
 // The kind of a block's records.
-fn kind(block: Block) -> usize
+pub fn kind(block: Block) -> usize
     ensures { λ r. ⌜ r ≡ kindOf block ⌝ }
 {
     match block {

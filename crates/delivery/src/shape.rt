@@ -1,6 +1,7 @@
 // The shape of a delivery: which blocks it has.
 
 use super::record::byte_of;
+use super::record::kind;
 ghost use mathlib.Core.Path.{_≡_};
 ghost use Prim.Native.Nat.{_*_, _≤_, _<_};
 ghost use lib.ListN.{length};
@@ -102,7 +103,7 @@ fn lowers_or_means(delivery: &[u8], s: usize, g: usize) -> Shape
     requires { ⌜ (8 * (s * g * s) < length (now delivery)) × (s < 9) × (g < 17) ⌝ }
     ensures { λ r. ⌜ r ≡ lowersOrMeans s g (now (delivery .entry)) ⌝ }
 {
-    if (s == 1) & (byte_of(delivery, entries(s, g), 0) != 76) {
+    if (s == 1) & (byte_of(delivery, entries(s, g), 0) != kind(Block::Lowers)) {
         Shape::UR
     } else {
         Shape::UL

@@ -16,6 +16,7 @@ use Rattle.ppda.specs.Rules.{Rule, IsModel}
 use Rattle.ppda.specs.Equations.{entries, f}
 use Rattle.ppda.specs.Live.{mark, alive}
 use Rattle.model.specs.Rules.{rulesOf}
+use Rattle.ppda.proofs.Lists.{getD-zeros}
 use Rattle.ppda.proofs.Places.{entry-once, entry-below}
 use Rattle.equations.specs.Held.{Sized, AtMost, Same}
 use Rattle.equations.specs.Rounds.{nextMark, RoundTo}
@@ -26,17 +27,10 @@ pub sign-none : (n : ℕ) → n ≤ 0 → sign n ≡ 0
 unfolding sign
 sign-none n h = let e : n ≡ 0 = omega arith in rw e
 
--- ---- places
-
 -- ---- one round, entry by entry
 
-zeros : (n e : ℕ) → getD {A = ℕ} (replicate n 0) e 0 ≡ 0
-zeros zero e = refl
-zeros (suc n) zero = refl
-zeros (suc n) (suc e) = zeros n e
-
 pub zeros-most : (a n : ℕ) → AtMost a (replicate n 0)
-zeros-most a n e = rw (zeros n e) (omega arith)
+zeros-most a n e = rw (getD-zeros n e) (omega arith)
 
 module _ {b : List ℕ} {s g : ℕ} {marks : List ℕ} where
   pub round-none : (n : ℕ) → n ≡ 1024 → RoundTo b s g marks 0 (replicate n 0)
@@ -74,7 +68,7 @@ module _ {b : List ℕ} {s g : ℕ} {marks : List ℕ} where
 
 pub no-marks : (m : List Rule) (s g n : ℕ) → Same s g (entries s g (replicate n 0)) (mark m s 0)
 unfolding mark
-no-marks m s g n p z q hp hz hq = zeros n ((p * g + z) * s + q)
+no-marks m s g n p z q hp hz hq = getD-zeros n ((p * g + z) * s + q)
 
 mark-next : (m : List Rule) (s k p z q : ℕ) → mark m s (k + 1) p z q ≡ sign (f m s 1 (mark m s k) p z q)
 unfolding mark

@@ -1,7 +1,6 @@
 -- Sums record by record over one row's range are the theory's sums over the row, and stay within their limits.
 use Prim.Native.Nat.{ℕ, zero, suc, _+_, _*_, _^_, _≤_, _<_}
 use native.Mathlib.Nat.{le-refl, le-trans, zero-mul, eq-or-lt-of-le, le-of-suc-le-suc, mul-le-mul, mul-le-mul-left, mul-le-mul-right}
-use native.Mathlib.Numerals.{add-one}
 use native.Mathlib.Omega.{arith}
 use mathlib.Core.Bool.{Bool, true, false}
 use mathlib.Core.List.{List}
@@ -14,7 +13,7 @@ use Rattle.ppda.proofs.Places.{row-below}
 use Rattle.ppda.specs.Sums.{bit, sumTo}
 use Rattle.ppda.specs.Rules.{Push, nothing, one, two, fits, overRow}
 use Rattle.ppda.specs.Equations.{entries, rows, through, stepsThrough}
-use Rattle.ppda.proofs.Sums.{sumTo-le, sumTo-mono}
+use Rattle.ppda.proofs.Sums.{sumTo-step, sumTo-le, sumTo-mono}
 use Rattle.ppda.proofs.Rows.{row-const}
 use Rattle.model.specs.Records.{recordsOf, target, pushes, top, under, weight}
 use Rattle.model.specs.Rules.{pushOf, ruleOf, rulesOf, rowOf}
@@ -29,10 +28,6 @@ use Rattle.equations.proofs.Ranges.{starts-ascend}
 sumTo-none : (h : ℕ → ℕ) → sumTo h 0 ≡ 0
 unfolding sumTo
 sumTo-none h = refl
-
-sumTo-more : (h : ℕ → ℕ) (n : ℕ) → sumTo h (n + 1) ≡ sumTo h n + h n
-unfolding sumTo
-sumTo-more h n = rw add-one
 
 -- Terms of 0 at the end add nothing.
 sumTo-past : (h : ℕ → ℕ) (a n : ℕ) → a ≤ n → ((i : ℕ) → a ≤ i → i < n → h i ≡ 0) → sumTo h a ≡ sumTo h n
@@ -68,7 +63,7 @@ states-none = record { to = omega arith; sum = sym (sumTo-none _) }
 
 module _ {h : ℕ → ℕ} {s t n : ℕ} (at : StateSum h s t n) where
   pub states-more : {a : ℕ} → t < s → a ≡ h t → StateSum h s (t + 1) (n + a)
-  states-more l e = record { to = omega arith; sum = ap₂ _+_ (at .sum) e ∙ sym (sumTo-more h t) }
+  states-more l e = record { to = omega arith; sum = ap₂ _+_ (at .sum) e ∙ sym (sumTo-step h t) }
 
   pub states-end : s ≤ t → n ≡ sumTo h s
   states-end l = let e : t ≡ s = omega (arith, at .to) in at .sum ∙ ap (sumTo h) e
@@ -205,7 +200,7 @@ module _ {b : List ℕ} {s g p z : ℕ} {h : ℕ → Push → ℕ} {k a e o i n 
         end = at .end;
         from = omega (arith, at .from);
         to = omega arith;
-        sum = omega (arith, at .sum, sumTo-more (addend b p z h) i, added);
+        sum = omega (arith, at .sum, sumTo-step (addend b p z h) i, added);
       }
 
   pub row-end : e ≤ i → n ≡ o + overRow (rulesOf b) p z (λ r. h (r .target) (r .push))

@@ -4,6 +4,7 @@ use super::chances::f;
 use model::record::row_number;
 ghost use mathlib.Core.Path.{_≡_};
 ghost use mathlib.Core.Bool.{true};
+ghost use mathlib.Core.Logic.{_↔_};
 ghost use Prim.Native.Nat.{ℕ, _+_, _*_, _≤_, _<_};
 ghost use lib.ListN.{getD};
 ghost use Rattle.ppda.specs.Equations.{entries};
@@ -79,7 +80,7 @@ fn round(
 // Whether the first n marks are the same.
 fn same(a: &[u32; 1024], b: &[u32; 1024], n: usize) -> bool
     requires { ⌜ n ≤ 1024 ⌝ }
-    ensures { λ r. ⌜ (r ≡ true → (e : ℕ) → e < n → getD (now (a .entry)) e 0 ≡ getD (now (b .entry)) e 0) ⌝ }
+    ensures { λ r. ⌜ (r ≡ true) ↔ ((e : ℕ) → e < n → getD (now (a .entry)) e 0 ≡ getD (now (b .entry)) e 0) ⌝ }
 {
     let mut e = 0;
     while e < n {

@@ -14,6 +14,12 @@ ghost use Rattle.model.specs.Rules.{pushOf, rulesOf};
 ghost use Rattle.equations.specs.Held.{Sized, Starts, AtMost};
 ghost use Rattle.equations.specs.Products.{stepsProduct};
 
+// 1 in 1/2^20, which uppers count.
+const UPPER_UNIT: u64 = 1048576;
+
+// One step, in 1/2^44 of a step.
+const STEP: u64 = 17592186044416;
+
 // The mean steps of row (p, z).
 pub fn mean(means: &[u32; 1024], g: usize, p: usize, z: usize) -> u64
     requires { ⌜ (g < 17) × (p < 8) × (z < 16) ⌝ }
@@ -62,7 +68,7 @@ fn steps_through(
     }
     let r = field(model, i, 2);
     let y = field(model, i, 4);
-    let first = 1048576 * mean(means, g, r, y);
+    let first = UPPER_UNIT * mean(means, g, r, y);
     if l == 1 {
         return first;
     }
@@ -86,7 +92,7 @@ pub fn mean_side(
     let row = row_number(p, g, z);
     let end = starts[row + 1];
     let mut i = starts[row];
-    let mut sum = 17592186044416;
+    let mut sum = STEP;
     while i < end {
         sum += weight(model, i) * steps_through(model, i, uppers, means, s, g);
         i += 1;

@@ -1,16 +1,18 @@
 -- The margin as the code finds it: one share, and the least value that a loop carries from row to row.
 use Prim.Native.Nat.{ℕ, zero, suc, _+_, _-_, _*_, _/_, _%_, _^_, _≤_, _<_, min}
-use native.Mathlib.Nat.{le-antisymm, le-trans, mod-lt, div-add-mod', mul-div-mul-right}
+use native.Mathlib.Nat.{le-antisymm, le-trans, mul-div-mul-right}
 use native.Mathlib.Numerals.{add-one}
 use native.Mathlib.Omega.{arith}
 use mathlib.Core.List.{List}
 use mathlib.Core.Path.{_≡_, refl, sym, ap, ap₂, _∙_}
 use lib.Dec.{lit<}
 use Rattle.ppda.specs.Sums.{leastTo}
+use Rattle.ppda.specs.Equations.{entries, f}
 use Rattle.ppda.specs.Margin.{share, shareAt}
 use Rattle.ppda.proofs.Sums.{leastTo-le-top, leastTo-le-term, leastTo-greatest}
-use Rattle.ppda.proofs.Places.{row-once, row-of, row-below}
-use Rattle.inequalities.specs.Shares.{StrictAt, shareOf, leastShare}
+use Rattle.ppda.proofs.Places.{row-of, row-at, row-below}
+use Rattle.model.specs.Rules.{rulesOf}
+use Rattle.inequalities.specs.Shares.{StrictAt, Strict, shareOf, leastShare}
 
 -- ---- one share
 
@@ -30,13 +32,14 @@ unfolding shareAt
 share-live zero u y h = absurd (omega arith)
 share-live (suc a) u y h = refl
 
--- Equal numbers meet the same condition and have the same part in the margin.
-module _ {a a′ u u′ y y′ : ℕ} (ea : a ≡ a′) (eu : u ≡ u′) (ey : y ≡ y′) where
-  pub strict-found : StrictAt a′ u′ y′ → StrictAt a u y
-  strict-found h = rw (ea, eu, ey) h
+-- The condition at an entry, of the numbers found there.
+pub strict-found : (b : List ℕ) (s g : ℕ) (a u : List ℕ) {p z q m n y : ℕ} → Strict b s g a u → p < s → z < g → q < s
+    → m ≡ entries s g a p z q → n ≡ entries s g u p z q → y ≡ f (rulesOf b) s (2 ^ 20) (entries s g u) p z q → StrictAt m n y
+strict-found b s g a u strict hp hz hq em en ey = rw (em, en, ey) (strict _ _ _ hp hz hq)
 
-  pub share-found : {r : ℕ} → r ≡ shareAt a u y → r ≡ shareAt a′ u′ y′
-  share-found e = e ∙ rw (ea, eu, ey)
+-- Equal numbers have the same part in the margin.
+pub share-found : {a a′ u u′ y y′ r : ℕ} → a ≡ a′ → u ≡ u′ → y ≡ y′ → r ≡ shareAt a u y → r ≡ shareAt a′ u′ y′
+share-found ea eu ey e = e ∙ rw (ea, eu, ey)
 
 -- ---- least values by their last term
 
@@ -63,13 +66,6 @@ leastOfRow b s g a u p z = leastTo (2 ^ 20) (shareOf b s g a u p z) s
 unfoldable pub leastOfRows : List ℕ → ℕ → ℕ → List ℕ → List ℕ → ℕ → ℕ
 leastOfRows b s g a u n = leastTo (2 ^ 20) (λ k. leastOfRow b s g a u (k / g) (k % g)) n
 
--- Row number p × g + z is (p, z).
-row-term : (g p z : ℕ) (h : ℕ → ℕ → ℕ) → z < g → h ((p * g + z) / g) ((p * g + z) % g) ≡ h p z
-row-term g p z h l =
-    let k : ℕ = p * g + z in
-    let (state, symbol) = row-once g (k / g) (k % g) p z (mod-lt k (omega arith)) l (div-add-mod' k g) in
-    ap₂ h state symbol
-
 -- Row by row, by state and symbol or by number.
 rows-by-number : (top s g : ℕ) (h : ℕ → ℕ → ℕ) → 0 < g
     → leastTo top (λ k. h (k / g) (k % g)) (s * g) ≡ leastTo top (λ p. leastTo top (h p) g) s
@@ -77,7 +73,7 @@ rows-by-number top s g h some =
     le-antisymm
     (leastTo-greatest top _ s _ (leastTo-le-top top _ (s * g))
     (λ p lp. leastTo-greatest top _ g _ (leastTo-le-top top _ (s * g))
-    (λ z lz. rw (sym (row-term g p z h lz))
+    (λ z lz. rw (sym (ap₂ h (row-at g p z lz .0) (row-at g p z lz .1)))
     (leastTo-le-term top (λ k. h (k / g) (k % g)) (s * g) (p * g + z) (row-below s g p z lp lz)))))
     (leastTo-greatest top _ (s * g) _ (leastTo-le-top top _ s)
     (λ k l. let row = row-of s g k some l in

@@ -12,12 +12,18 @@ ghost use Rattle.ppda.specs.Margin.{share, shareAt};
 ghost use Rattle.equations.specs.Held.{Sized, Starts, AtMost};
 ghost use Rattle.inequalities.specs.Shares.{StrictAt, Strict, shareOf, leastShare};
 
+// 1 in 1/2^20: the part of a dead entry, and the margin where nothing is live.
+const WHOLE: u64 = 1048576;
+
+// 1/2^20 of UNIT: a difference in units divided by u times this is a share in 1/2^20.
+const SHARE_UNIT: u64 = 65536;
+
 // The share (u − y) / u of an upper u and f(u) = y, in 1/2^20, rounded down.
 fn share(u: u64, y: u64) -> u64
     requires { ⌜ (0 < u) × (u ≤ 2097152) × (y ≤ u * 2 ^ 36) ⌝ }
     ensures { λ r. ⌜ r ≡ share u y ⌝ }
 {
-    (u * UNIT - y) / (u * 65536)
+    (u * UNIT - y) / (u * SHARE_UNIT)
 }
 
 // An entry's part in the margin, by its mark.
@@ -26,7 +32,7 @@ fn share_at(live: u64, u: u64, y: u64) -> u64
     ensures { λ r. ⌜ r ≡ shareAt live u y ⌝ }
 {
     if live == 0 {
-        return 1048576;
+        return WHOLE;
     }
     share(u, y)
 }
@@ -70,7 +76,7 @@ pub fn margin_of(
     ensures { λ r. ⌜ r ≡ leastShare (now (model .entry)) s g (now (live .entry)) (now (uppers .entry)) ⌝ }
 {
     let n = rows(s, g);
-    let mut least = 1048576;
+    let mut least = WHOLE;
     let mut k = 0;
     while k < n {
         least = least_of_row(model, starts, live, uppers, s, g, k / g, k % g, least);

@@ -1,6 +1,6 @@
 -- Model W of document 01 as a file: forty bytes.
 use Prim.Native.Nat.{ℕ}
-use mathlib.Core.List.{List, [], _∷_, _++_}
+use mathlib.Core.List.{List, [], _∷_}
 
 -- Its four records: p Z q L Y X, and the weight with the low byte first.
 abbrev pub wFile : List ℕ

@@ -23,6 +23,7 @@ pub enum Reason {
     MeanTooSmall,
 }
 
+// What a check answers: accepted, or the first failing test's reason, place and shortfall.
 pub enum Outcome {
     Accepted,
     Refused {

@@ -1,10 +1,11 @@
--- What holds of every number below a bound, or at every element of a list; and the laws of membership.
+-- What holds of every number below a bound, or at every element of a list; lists of zeros; and the laws of membership.
 use Prim.Native.Nat.{ℕ, zero, suc, _<_}
 use native.Mathlib.Nat.{not-suc-le-zero, eq-or-lt-of-le, le-of-suc-le-suc}
 use mathlib.Core.Path.{_≡_, refl, sym, ap, subst}
 use mathlib.Core.Bool.{Bool, true, _&&_, and-eq-true-iff}
 use mathlib.Core.List.{List, [], _∷_, _++_, map, flatMap}
 use mathlib.Core.Logic.{_⊎_, inl, inr}
+use lib.ListN.{getD, replicate}
 use Rattle.ppda.specs.Sums.{In}
 use Rattle.ppda.specs.Equations.{Vector, RowVector}
 
@@ -24,6 +25,12 @@ at-rows s g P a p z hp = all-to (P p) g (all-to (λ p. AllTo (P p) g) s a p hp) 
 pub at-entries : (s g : ℕ) (P : ℕ → ℕ → ℕ → Type 0) → AllTo (λ p. AllTo (λ z. AllTo (P p z) s) g) s
     → (p z q : ℕ) → p < s → z < g → q < s → P p z q
 at-entries s g P a p z q hp hz = all-to (P p z) s (at-rows s g (λ p z. AllTo (P p z) s) a p z hp hz) q
+
+-- A list of zeros has 0 everywhere, and past its end too.
+pub getD-zeros : (n e : ℕ) → getD {A = ℕ} (replicate n 0) e 0 ≡ 0
+getD-zeros zero e = refl
+getD-zeros (suc n) zero = refl
+getD-zeros (suc n) (suc e) = getD-zeros n e
 
 -- 0, 1, …, n − 1; and the numbers of a vector, or of rows, in file order.
 abbrev pub range : ℕ → List ℕ

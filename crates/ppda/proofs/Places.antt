@@ -31,6 +31,12 @@ entry-once s g p z q p′ z′ q′ hz hq hz′ hq′ e =
     let (first, second) = row-once g p z p′ z′ hz hz′ row in
     (first, second, last)
 
+-- Row number p × g + z is (p, z).
+pub row-at : (g p z : ℕ) → z < g → ((p * g + z) / g ≡ p) × ((p * g + z) % g ≡ z)
+row-at g p z l =
+    let k : ℕ = p * g + z in
+    row-once g (k / g) (k % g) p z (mod-lt k (omega arith)) l (div-add-mod' k g)
+
 -- Every number below s × g is that of a row, and every row has such a number.
 pub row-of : (s g k : ℕ) → 0 < g → k < s * g → (k / g < s) × (k % g < g) × (k / g * g + k % g ≡ k)
 row-of s g k some h = (div-lt-iff-lt-mul {k = g} some .1 h, mod-lt k some, div-add-mod' k g)

@@ -37,7 +37,7 @@ returns c =
     let inv = c .before .before .before .before .before .before .before .loop .inv in (
       inv .2,
       marks-unchanged (c .before .before .before .before .before .before .before .before .before .pre .0) _ _ (inv .3) (inv .1) (c .before .before .before .before .round .ensures)
-          (c .before .same .ensures (c .if1 .taken)),
+          (c .before .same .ensures .0 (c .if1 .taken)),
     )
 
 add-k : tie.Need-add-k Inv-loop μ-loop

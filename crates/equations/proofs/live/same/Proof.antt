@@ -1,8 +1,8 @@
--- `same`: every number passed is the same in both.
+-- `same`: every number passed is the same in both, and one that differs is within the first n.
 use Prim.Native.Nat.{ℕ, _≤_, _<_, _-_}
 use native.Mathlib.Omega.{arith}
 use mathlib.Core.Bool.{false≢true}
-use mathlib.Core.Path.{_≡_}
+use mathlib.Core.Path.{_≡_, refl}
 use lib.ListN.{getD}
 use borrow.Author.Count.{below-none, below-more}
 use Rattle.equations.proofs.live.same.Statement.{statement}
@@ -30,7 +30,7 @@ element-copy-out-if1-2 : tie.Need-element-copy-out-if1-2 Inv-loop μ-loop
 element-copy-out-if1-2 c = omega arith
 
 returns : tie.Need-returns Inv-loop μ-loop
-returns c = λ t. absurd (false≢true t)
+returns c = (λ t. absurd (false≢true t), λ all. absurd (c .if1 .taken (all _ (c .before .before .before .loop-test .taken))))
 
 add-e : tie.Need-add-e Inv-loop μ-loop
 add-e c = omega arith
@@ -42,7 +42,7 @@ loop-again : tie.Need-loop-again Inv-loop μ-loop
 loop-again c = (omega arith, below-more _ _ (c .before .before .before .before .loop .inv .1) (c .if1 .left))
 
 returns-2 : tie.Need-returns-2 Inv-loop μ-loop
-returns-2 c = λ t k l. c .before .loop .inv .1 k (omega arith)
+returns-2 c = (λ t k l. c .before .loop .inv .1 k (omega arith), λ all. refl)
 
 pub same-spec : {M : Type 1} → statement M
 same-spec =

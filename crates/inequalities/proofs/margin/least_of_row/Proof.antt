@@ -53,10 +53,12 @@ value-requires-2 c κs = omega (arith, sizes (c .before .before .before .before 
 
 share-at-requires : tie.Need-share-at-requires Inv-loop μ-loop
 share-at-requires c κs =
-    let pre = c .before .before .before .before .before .before .pre in (
+    let pre = c .before .before .before .before .before .before .pre in
+    let args = c .before .before .before .before .before .before .args in (
       rw (c .value2 .ensures .0) (pre .2 _),
-      strict-found (c .before .value .ensures .0) (c .value2 .ensures .0) (c .before .before .f .ensures .0)
-          (pre .3 _ _ _ (pre .4) (pre .5) (c .before .before .before .loop-test .taken)),
+      strict-found (now (args .model)) (args .s) (args .g) (now (args .live)) (now (args .uppers)) (pre .3) (pre .4) (pre .5)
+          (c .before .before .before .loop-test .taken) (c .before .value .ensures .0) (c .value2 .ensures .0)
+          (c .before .before .f .ensures .0),
     )
 
 add-q : tie.Need-add-q Inv-loop μ-loop
