@@ -1,5 +1,5 @@
 -- The verdict on a delivery with its model: the model's tests 10 to 15 first, then document 01's list 20 to 27, top to bottom.
-use Prim.Native.Nat.{ℕ, _+_}
+use Prim.Native.Nat.{ℕ}
 use mathlib.Core.Bool.{true}
 use mathlib.Core.List.{List, [], _∷_, _++_}
 use Rattle.outcome.specs.declared.Outcome.{Outcome}
