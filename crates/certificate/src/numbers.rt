@@ -17,13 +17,13 @@ use outcome::Outcome;
 ghost use mathlib.Core.Path.{_≡_};
 ghost use mathlib.Core.Bool.{true};
 ghost use mathlib.Core.List.{_++_};
-ghost use Prim.Native.Nat.{_+_, _*_, _≤_, _<_};
+ghost use Prim.Native.Nat.{_*_, _≤_, _<_};
 ghost use Rattle.outcome.specs.Tests.{first};
 ghost use Rattle.outcome.specs.declared.Outcome.the-variants.{Accepted};
 ghost use Rattle.ppda.specs.Equations.{entries};
 ghost use Rattle.model.specs.Rules.{rulesOf};
 ghost use Rattle.delivery.specs.declared.shape.Shaped.the-variants.{Of};
-ghost use Rattle.delivery.specs.Shapes.{entriesIn, rowsIn, hasLowers, hasMeans, shapeOf};
+ghost use Rattle.delivery.specs.Shapes.{entriesIn, rowsIn, shapeOf};
 ghost use Rattle.delivery.specs.Numbers.{uppersOf};
 ghost use Rattle.delivery.specs.Layout.{onlyIf, layoutTests};
 ghost use Rattle.equations.specs.Held.{Sized, Starts, AtMost};
@@ -162,7 +162,7 @@ fn check_rest(
 }
 
 // The tests 23 to 27 of a delivery whose layout is right.
-pub fn check(model: &[u8], delivery: &[u8], s: usize, g: usize, shape: Shape) -> Outcome
+pub(crate) fn check(model: &[u8], delivery: &[u8], s: usize, g: usize, shape: Shape) -> Outcome
     requires { ⌜ Sized (now model) s g × (shapeOf s g (now delivery) ≡ Of shape) × (first (layoutTests s g shape (now delivery)) ≡ Accepted) ⌝ }
     ensures { λ r. ⌜ r ≡ first (numberTests (now (model .entry)) s g shape (now (delivery .entry))) ⌝ }
 {

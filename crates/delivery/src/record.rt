@@ -12,7 +12,7 @@ ghost use Rattle.delivery.specs.Records.{byteOf, valueOf, kindOf, leastO
 ghost use Rattle.delivery.specs.Layout.{isDue, inRange, recordTests};
 
 // Byte k of record i.
-pub fn byte_of(delivery: &[u8], i: usize, k: usize) -> usize
+pub(crate) fn byte_of(delivery: &[u8], i: usize, k: usize) -> usize
     requires { ⌜ 8 * i + k < length (now delivery) ⌝ }
     ensures { λ r. ⌜ (r ≡ byteOf (now (delivery .entry)) i k) × (r < 256) ⌝ }
 {
@@ -20,7 +20,7 @@ pub fn byte_of(delivery: &[u8], i: usize, k: usize) -> usize
 }
 
 // The value of record i.
-pub fn value_of(delivery: &[u8], i: usize) -> u64
+pub(crate) fn value_of(delivery: &[u8], i: usize) -> u64
     requires { ⌜ 8 * i + 7 < length (now delivery) ⌝ }
     ensures { λ r. ⌜ (r ≡ valueOf (now (delivery .entry)) i) × (r < 2 ^ 32) ⌝ }
 {
@@ -28,7 +28,7 @@ pub fn value_of(delivery: &[u8], i: usize) -> u64
 }
 
 // The kind of a block's records.
-pub fn kind(block: Block) -> usize
+pub(crate) fn kind(block: Block) -> usize
     ensures { λ r. ⌜ r ≡ kindOf block ⌝ }
 {
     match block {
@@ -82,7 +82,14 @@ fn in_range(delivery: &[u8], i: usize, block: Block) -> bool
 }
 
 // The tests of record i, in their order.
-pub fn check(delivery: &[u8], i: usize, block: Block, p: usize, z: usize, q: usize) -> Outcome
+pub(crate) fn check(
+    delivery: &[u8],
+    i: usize,
+    block: Block,
+    p: usize,
+    z: usize,
+    q: usize,
+) -> Outcome
     requires { ⌜ 8 * i + 7 < length (now delivery) ⌝ }
     ensures { λ r. ⌜ r ≡ first (recordTests (now (delivery .entry)) i block p z q) ⌝ }
 {

@@ -13,7 +13,7 @@ ghost use Rattle.equations.specs.Held.{Sized, Starts, AtMost};
 ghost use Rattle.equations.specs.Products.{product};
 
 // A listed number as a wider one.
-pub fn wide(n: u32) -> u64
+pub(crate) fn wide(n: u32) -> u64
     ensures { λ r. ⌜ (r ≡ n) × (n < 2 ^ 32) ⌝ }
 {
     n as u64

@@ -105,7 +105,7 @@ fn ascends(model: &[u8], i: usize) -> bool
 }
 
 // The tests of record i, in their order.
-pub fn check(model: &[u8], i: usize) -> Outcome
+pub(crate) fn check(model: &[u8], i: usize) -> Outcome
     requires { ⌜ 10 * i + 9 < length (now model) ⌝ }
     ensures { λ r. ⌜ r ≡ first (recordTests (now (model .entry)) i) ⌝ }
 {

@@ -35,7 +35,7 @@ fn sums(model: &[u8], g: usize) -> [u64; 128]
 }
 
 // The tests of the rows, in their order.
-pub fn check(model: &[u8]) -> Outcome
+pub(crate) fn check(model: &[u8]) -> Outcome
     requires { ⌜ RecordsRight (now model) ⌝ }
     ensures { λ r. ⌜ r ≡ first (each (statesOf (now (model .entry)) * symbolsOf (now (model .entry))) (rowTests (now (model .entry)))) ⌝ }
 {
