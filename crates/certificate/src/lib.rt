@@ -71,7 +71,7 @@ pub fn shape(model: &[u8], delivery: &[u8]) -> Shaped
 }
 
 // The margin of an accepted delivery with lowers.
-fn margin_with_lowers(model: &[u8], delivery: &[u8], s: usize, g: usize, shape: Shape) -> u64
+pub fn margin_with_lowers(model: &[u8], delivery: &[u8], s: usize, g: usize, shape: Shape) -> u64
     requires { ⌜ Sized (now model) s g × (shapeOf s g (now delivery) ≡ Of shape) × (hasLowers shape ≡ true) × (verdict (now model) (now delivery) ≡ Accepted) ⌝ }
     ensures { λ r. ⌜ r ≡ marginOf (now (model .entry)) (now (delivery .entry)) ⌝ }
 {

@@ -7,7 +7,7 @@ use mathlib.Core.Bool.{Bool, true, false}
 use mathlib.Core.List.{List, _++_, append-nil, append-assoc}
 use mathlib.Core.Path.{_≡_, refl, sym, ap, ap₂, subst, _∙_}
 use lib.Dec.{eqb}
-use lib.ListN.{length, getD, set, drop, replicate}
+use lib.ListN.{getD, set, drop, replicate, length-set, length-replicate}
 use lib.Seq.{getD-drop, getD-set-same, getD-set-other}
 use borrow.Author.Tests.{eqb-true, eqb-false}
 use Rattle.words.specs.Words.{wordAt}
@@ -72,17 +72,18 @@ rest-value d n i = word-past d (8 * n) (8 * i + 4) (8 * (n + i) + 4) (omega arit
 -- ---- the values of the first n records, one after the other
 
 pub values-none : (d : List ℕ) → Values d 0 (replicate 1024 0)
-values-none d = record { value = λ e h. absurd (omega arith); none = λ e h. getD-zeros 1024 e }
+values-none d = record { size = length-replicate {A = ℕ} 1024 0; value = λ e h. absurd (omega arith); none = λ e h. getD-zeros 1024 e }
 
-pub values-step : {d : List ℕ} {n : ℕ} {l : List ℕ} (v : ℕ) → Values d n l → n < length l → v ≡ valueOf d n → Values d (n + 1) (set l n v)
+pub values-step : {d : List ℕ} {n : ℕ} {l : List ℕ} (v : ℕ) → Values d n l → n < 1024 → v ≡ valueOf d n → Values d (n + 1) (set l n v)
 values-step {d} {n} {l} v before room e =
     record {
+      size = length-set l n v ∙ before .size;
       value = λ i h. go i h (eqb i n) refl;
       none = λ i h. getD-set-other l n i v 0 (λ q. omega arith) ∙ before .none i (omega arith);
     }
   where
     go : (i : ℕ) → i < n + 1 → (t : Bool) → eqb i n ≡ t → getD (set l n v) i 0 ≡ valueOf d i
-    go i h true u = let q : i ≡ n = eqb-true i n u in rw q (getD-set-same l n v 0 room ∙ e)
+    go i h true u = let q : i ≡ n = eqb-true i n u in rw q (getD-set-same l n v 0 (omega (arith, before .size)) ∙ e)
     go i h false u = let q : i ≡ n → ⊥ = eqb-false i n u in getD-set-other l n i v 0 q ∙ before .value i (omega arith)
 
 pub values-end : {d : List ℕ} {n m : ℕ} {l : List ℕ} → Values d n l → n ≡ m → Values d m l

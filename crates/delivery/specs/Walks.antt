@@ -2,7 +2,7 @@
 use Prim.Native.Nat.{ℕ, _+_, _*_, _/_, _%_, _≤_, _<_}
 use mathlib.Core.List.{List}
 use mathlib.Core.Path.{_≡_}
-use lib.ListN.{getD}
+use lib.ListN.{length, getD}
 use Rattle.outcome.specs.Tests.{Test, each}
 use Rattle.delivery.specs.declared.shape.Block.{Block}
 use Rattle.delivery.specs.Records.{valueOf}
@@ -16,7 +16,8 @@ recordOfRow d k at p z q = recordTests d (at + q) k p z q
 abbrev pub rowOfBlock : List ℕ → Block → ℕ → ℕ → ℕ → ℕ → List Test
 rowOfBlock d k from n g j = each n (recordOfRow d k (from + j * n) (j / g) (j % g))
 
--- The list has the values of the first n records of d, and 0 from there on.
+-- The list of 1,024 numbers has the values of the first n records of d, and 0 from there on.
 pub record Values (d : List ℕ) (n : ℕ) (l : List ℕ) : Type 0 where
+  pub size : length l ≡ 1024
   pub value : (e : ℕ) → e < n → getD l e 0 ≡ valueOf d e
   pub none : (e : ℕ) → n ≤ e → getD l e 0 ≡ 0

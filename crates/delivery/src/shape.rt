@@ -69,7 +69,7 @@ pub fn rows(s: usize, g: usize) -> usize
 }
 
 // The record at which a shape's mean steps start.
-pub(crate) fn means_from(s: usize, g: usize, shape: Shape) -> usize
+pub fn means_from(s: usize, g: usize, shape: Shape) -> usize
     requires { ⌜ (s < 9) × (g < 17) ⌝ }
     ensures { λ r. ⌜ (r ≡ meansFrom s g shape) × (r ≤ 2048) ⌝ }
 {

@@ -13,12 +13,12 @@ use lib.Seq.{getD-set-same, getD-set-other}
 use borrow.Author.Tests.{eqb-true, eqb-false}
 use Rattle.ppda.specs.Sums.{sign}
 use Rattle.ppda.specs.Rules.{Rule, IsModel}
-use Rattle.ppda.specs.Equations.{entries, f}
+use Rattle.ppda.specs.Equations.{Vector, entries, f}
 use Rattle.ppda.specs.Live.{mark, alive}
 use Rattle.model.specs.Rules.{rulesOf}
 use Rattle.ppda.proofs.Lists.{getD-zeros}
 use Rattle.ppda.proofs.Places.{entry-once, entry-below}
-use Rattle.equations.specs.Held.{Sized, AtMost, Same}
+use Rattle.equations.specs.Held.{Sized, AtMost, Same, Marks}
 use Rattle.equations.specs.Rounds.{nextMark, RoundTo}
 use Rattle.equations.proofs.Ranges.{sized-model}
 use Rattle.equations.proofs.Vectors.{f-same}
@@ -35,16 +35,17 @@ zeros-most a n e = rw (getD-zeros n e) (omega arith)
 module _ {b : List ℕ} {s g : ℕ} {marks : List ℕ} where
   pub round-none : (n : ℕ) → n ≡ 1024 → RoundTo b s g marks 0 (replicate n 0)
   round-none n e =
-      record { size = length-replicate n 0 ∙ e; small = zeros-most 1 n; done = λ p z q hp hz hq h. absurd (omega arith) }
+      record { size = length-replicate n 0 ∙ e; small = zeros-most 1 n; done = λ p z q hp hz hq h. absurd (omega arith); none = λ e h. getD-zeros n e }
 
   -- One entry more.
-  pub round-more : {l : List ℕ} {z q n m : ℕ} (p : ℕ) → RoundTo b s g marks n l → z < g → q < s → n ≡ (p * g + z) * s + q → n < 1024
+  pub round-more : {l : List ℕ} {z q n m : ℕ} (p : ℕ) → RoundTo b s g marks n l → p < s → z < g → q < s → n ≡ (p * g + z) * s + q → n < 1024
       → m ≡ nextMark b s g marks p z q → m ≤ 1 → RoundTo b s g marks (n + 1) (set l n m)
-  round-more {l} {z} {q} {n} {m} p to hz hq place below same bit =
+  round-more {l} {z} {q} {n} {m} p to hp hz hq place below same bit =
       record {
         size = length-set l n m ∙ to .size;
         small = λ i. small i (eqb i n) refl;
         done = λ p′ z′ q′ hp′ hz′ hq′ h. done p′ z′ q′ hp′ hz′ hq′ h (eqb ((p′ * g + z′) * s + q′) n) refl;
+        none = λ e h. getD-set-other l n e m 0 (λ u. omega (arith, entry-below s g p z q hp hz hq)) ∙ to .none e h;
       }
     where
       small : (i : ℕ) (t : Bool) → eqb i n ≡ t → getD (set l n m) i 0 ≤ 1
@@ -70,6 +71,10 @@ pub no-marks : (m : List Rule) (s g n : ℕ) → Same s g (entries s g (replicat
 unfolding mark
 no-marks m s g n p z q hp hz hq = getD-zeros n ((p * g + z) * s + q)
 
+pub zero-marks : {v : Vector} (s g n : ℕ) → n ≡ 1024 → Same s g (entries s g (replicate n 0)) v → Marks s g v (replicate n 0)
+zero-marks s g n size same =
+    record { size = length-replicate n 0 ∙ size; small = zeros-most 1 n; marks = same; none = λ e h. getD-zeros n e }
+
 mark-next : (m : List Rule) (s k p z q : ℕ) → mark m s (k + 1) p z q ≡ sign (f m s 1 (mark m s k) p z q)
 unfolding mark
 mark-next m s k p z q = rw add-one
@@ -90,28 +95,38 @@ module _ {m : List Rule} {s g : ℕ} (model : IsModel s g m) (k : ℕ) (still : 
           ∙ ap (λ n. mark m s n p z q) (add-one j)
 
 -- The list has the marks of k rounds.
-module _ {b : List ℕ} {s g : ℕ} (sized : Sized b s g) (marks : List ℕ) (k : ℕ) (same : Same s g (entries s g marks) (mark (rulesOf b) s k)) where
+module _ {b : List ℕ} {s g : ℕ} (sized : Sized b s g) (marks : List ℕ) (k : ℕ) (held : Marks s g (mark (rulesOf b) s k) marks) where
+  same : Same s g (entries s g marks) (mark (rulesOf b) s k)
+  same = held .marks
+
+  -- The same list, by other marks.
+  other-marks : {v : Vector} → Same s g (entries s g marks) v → Marks s g v marks
+  other-marks e = record { size = held .size; small = held .small; marks = e; none = held .none }
+
   -- One round more.
-  pub marks-next : {next : List ℕ} → RoundTo b s g marks (s * g * s) next → Same s g (entries s g next) (mark (rulesOf b) s (k + 1))
+  one-more : {next : List ℕ} → RoundTo b s g marks (s * g * s) next → Same s g (entries s g next) (mark (rulesOf b) s (k + 1))
   unfolding nextMark
-  marks-next to p z q hp hz hq =
+  one-more to p z q hp hz hq =
       to .done p z q hp hz hq (entry-below s g p z q hp hz hq)
       ∙ ap sign (f-same (sized-model sized) 1 (entries s g marks) (mark (rulesOf b) s k) same p z q hq)
       ∙ sym (mark-next (rulesOf b) s k p z q)
 
+  pub marks-next : {next : List ℕ} → RoundTo b s g marks (s * g * s) next → Marks s g (mark (rulesOf b) s (k + 1)) next
+  marks-next to = record { size = to .size; small = to .small; marks = one-more to; none = to .none }
+
   -- As many rounds as there are entries, or a round that changes nothing, give the live marks.
-  pub marks-all : k ≡ s * g * s → Same s g (entries s g marks) (alive (rulesOf b) s g)
+  pub marks-all : k ≡ s * g * s → Marks s g (alive (rulesOf b) s g) marks
   unfolding alive
-  marks-all e p z q hp hz hq = same p z q hp hz hq ∙ ap (λ n. mark (rulesOf b) s n p z q) e
+  marks-all e = other-marks (λ p z q hp hz hq. same p z q hp hz hq ∙ ap (λ n. mark (rulesOf b) s n p z q) e)
 
   pub marks-unchanged : {next : List ℕ} → k ≤ s * g * s → RoundTo b s g marks (s * g * s) next
-      → ((e : ℕ) → e < s * g * s → getD marks e 0 ≡ getD next e 0) → Same s g (entries s g marks) (alive (rulesOf b) s g)
+      → ((e : ℕ) → e < s * g * s → getD marks e 0 ≡ getD next e 0) → Marks s g (alive (rulesOf b) s g) marks
   unfolding alive
-  marks-unchanged l to unchanged p z q hp hz hq =
-      same p z q hp hz hq ∙ marks-stay (sized-model sized) k still (s * g * s) l p z q hp hz hq
+  marks-unchanged l to unchanged =
+      other-marks (λ p z q hp hz hq. same p z q hp hz hq ∙ marks-stay (sized-model sized) k still (s * g * s) l p z q hp hz hq)
     where
       still : Same s g (mark (rulesOf b) s k) (mark (rulesOf b) s (k + 1))
       still p z q hp hz hq =
           sym (same p z q hp hz hq)
           ∙ unchanged ((p * g + z) * s + q) (entry-below s g p z q hp hz hq)
-          ∙ marks-next to p z q hp hz hq
+          ∙ one-more to p z q hp hz hq

@@ -7,32 +7,38 @@ use lib.IntN.{ℤ}
 use lib.ListN.{replicate}
 use Rattle.outcome.specs.declared.Reason.{Reason}
 use Rattle.outcome.specs.declared.Outcome.the-variants.{Accepted, Refused}
-use Rattle.ppda.specs.Equations.{entries}
 use Rattle.ppda.specs.Live.{alive, mark, Live}
 use Rattle.ppda.proofs.Live.{live-by-rounds}
 use Rattle.model.specs.Records.{statesOf, symbolsOf}
 use Rattle.model.specs.Rules.{rulesOf}
 use Rattle.model.specs.Verdict.{modelVerdict}
 use Rattle.model.proofs.Accepted.{model-accepted, is-model}
-use Rattle.equations.specs.Held.{Sized, AtMost, Same}
-use Rattle.equations.specs.Shown.{liveMark, LiveMarks}
-use Rattle.equations.proofs.Marks.{zeros-most, no-marks}
+use Rattle.equations.specs.Held.{Sized, Marks}
+use Rattle.equations.specs.Shown.{liveMark}
+use Rattle.equations.proofs.Marks.{no-marks, zero-marks}
 
 -- An accepted model with its sizes.
 pub sized-of : {b : List ℕ} {s g : ℕ} → modelVerdict b ≡ Accepted → s ≡ statesOf b → g ≡ symbolsOf b → Sized b s g
 sized-of {b} e hs hg = record { file = model-accepted b .0 e; states = hs; symbols = hg }
 
 -- Nothing of a refused model is live.
-pub none-live : (b : List ℕ) (n : ℕ) {r : Reason} {i : ℕ} {k : ℤ} → modelVerdict b ≡ Refused r i k → LiveMarks b (replicate n 0)
+pub none-live : (b : List ℕ) (n : ℕ) {r : Reason} {i : ℕ} {k : ℤ} → n ≡ 1024 → modelVerdict b ≡ Refused r i k → Marks (statesOf b) (symbolsOf b) (liveMark b) (replicate n 0)
 unfolding liveMark mark
-none-live b n e =
-    record { small = zeros-most 1 n; marks = λ p z q hp hz hq. rw e (no-marks (rulesOf b) (statesOf b) (symbolsOf b) n p z q hp hz hq) }
+none-live b n size e =
+    zero-marks (statesOf b) (symbolsOf b) n size
+    (λ p z q hp hz hq. rw e (no-marks (rulesOf b) (statesOf b) (symbolsOf b) n p z q hp hz hq))
 
 -- The marks of an accepted model.
-pub live-of : {b l : List ℕ} {s g : ℕ} → modelVerdict b ≡ Accepted → s ≡ statesOf b → g ≡ symbolsOf b → AtMost 1 l
-    → Same s g (entries s g l) (alive (rulesOf b) s g) → LiveMarks b l
+pub live-of : (b : List ℕ) {l : List ℕ} {s g : ℕ} → modelVerdict b ≡ Accepted → s ≡ statesOf b → g ≡ symbolsOf b → Marks s g (alive (rulesOf b) s g) l
+    → Marks (statesOf b) (symbolsOf b) (liveMark b) l
 unfolding liveMark
-live-of {b} {l} e hs hg small same = record { small = small; marks = λ p z q hp hz hq. rw (e, ← hs, ← hg) (same p z q (rw hs hp) (rw hg hz) (rw hs hq)) }
+live-of b {l} e hs hg marked =
+    record {
+      size = marked .size;
+      small = marked .small;
+      marks = λ p z q hp hz hq. rw (e, ← hs, ← hg) (marked .marks p z q (rw hs hp) (rw hg hz) (rw hs hq));
+      none = rw (← hs, ← hg) (marked .none);
+    }
 
 -- The marks shown of an accepted model are those of document 01: 1 where some run empties the stack.
 pub live-marks-by-runs : (b : List ℕ) → modelVerdict b ≡ Accepted → (p z q : ℕ) → p < statesOf b → z < symbolsOf b → q < statesOf b

@@ -1,9 +1,9 @@
 -- What a function over an accepted model takes.
-use Prim.Native.Nat.{ℕ, _≤_, _<_}
+use Prim.Native.Nat.{ℕ, _*_, _≤_, _<_}
 use mathlib.Core.List.{List}
 use mathlib.Core.Path.{_≡_}
-use lib.ListN.{getD}
-use Rattle.ppda.specs.Equations.{Vector}
+use lib.ListN.{length, getD}
+use Rattle.ppda.specs.Equations.{Vector, entries}
 use Rattle.model.specs.Records.{recordsOf, statesOf, symbolsOf}
 use Rattle.model.specs.Rules.{rowOf}
 use Rattle.model.specs.Accepted.{ModelFile}
@@ -31,3 +31,10 @@ AtMost a l = (e : ℕ) → getD l e 0 ≤ a
 -- Two vectors are the same at every entry of a model with s states and g symbols.
 abbrev pub Same : ℕ → ℕ → Vector → Vector → Type 0
 Same s g v u = (p z q : ℕ) → p < s → z < g → q < s → v p z q ≡ u p z q
+
+-- The list of 1,024 numbers has the marks v of the entries, in file order, and 0 from there on; no number is above 1.
+pub record Marks (s g : ℕ) (v : Vector) (l : List ℕ) : Type 0 where
+  pub size : length l ≡ 1024
+  pub small : AtMost 1 l
+  pub marks : Same s g (entries s g l) v
+  pub none : (e : ℕ) → s * g * s ≤ e → getD l e 0 ≡ 0

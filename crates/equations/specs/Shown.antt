@@ -3,12 +3,11 @@ use Prim.Native.Nat.{ℕ}
 use mathlib.Core.List.{List}
 use Rattle.outcome.specs.declared.Outcome.{Outcome}
 use Rattle.outcome.specs.declared.Outcome.the-variants.{Accepted, Refused}
-use Rattle.ppda.specs.Equations.{Vector, entries}
+use Rattle.ppda.specs.Equations.{Vector}
 use Rattle.ppda.specs.Live.{alive}
 use Rattle.model.specs.Records.{statesOf, symbolsOf}
 use Rattle.model.specs.Rules.{rulesOf}
 use Rattle.model.specs.Verdict.{modelVerdict}
-use Rattle.equations.specs.Held.{AtMost, Same}
 
 -- A mark by the verdict on the model: nothing of a refused model is live.
 abbrev pub markBy : Outcome → ℕ → ℕ
@@ -18,8 +17,3 @@ markBy (Refused r i k) a = 0
 -- The live mark of an entry of the model b.
 unfoldable pub liveMark : List ℕ → Vector
 liveMark b p z q = markBy (modelVerdict b) (alive (rulesOf b) (statesOf b) (symbolsOf b) p z q)
-
--- The list has the live mark of each entry, in file order, and no number above 1.
-pub record LiveMarks (b l : List ℕ) : Type 0 where
-  pub small : AtMost 1 l
-  pub marks : Same (statesOf b) (symbolsOf b) (entries (statesOf b) (symbolsOf b) l) (liveMark b)

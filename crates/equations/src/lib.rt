@@ -10,12 +10,13 @@ pub mod live; // live.rt: the live marks of an accepted model
 pub mod rows; // rows.rt: where each row's records start
 pub mod steps; // steps.rt: the right side of the mean steps' inequality
 
-ghost use Rattle.equations.specs.Shown.{LiveMarks};
+ghost use Rattle.model.specs.Records.{statesOf, symbolsOf};
+ghost use Rattle.equations.specs.Held.{Marks};
+ghost use Rattle.equations.specs.Shown.{liveMark};
 
-// The live marks of any bytes, by entry number: 1 where an entry is live, and 0 everywhere where the model is refused. What stands from
-// the last entry on is free, and at most 1.
+// The live marks of any bytes, by entry number: 1 where an entry is live, and 0 everywhere where the model is refused.
 pub fn live_marks(model: &[u8]) -> [u32; 1024]
-    ensures { λ r. ⌜ LiveMarks (now (model .entry)) r ⌝ }
+    ensures { λ r. ⌜ Marks (statesOf (now (model .entry))) (symbolsOf (now (model .entry))) (liveMark (now (model .entry))) r ⌝ }
 {
     let found = model::check(model);
     if let Outcome::Refused { .. } = found {

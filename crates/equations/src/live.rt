@@ -7,10 +7,9 @@ ghost use mathlib.Core.Bool.{true};
 ghost use mathlib.Core.Logic.{_↔_};
 ghost use Prim.Native.Nat.{ℕ, _+_, _*_, _≤_, _<_};
 ghost use lib.ListN.{getD};
-ghost use Rattle.ppda.specs.Equations.{entries};
 ghost use Rattle.ppda.specs.Live.{alive};
 ghost use Rattle.model.specs.Rules.{rulesOf};
-ghost use Rattle.equations.specs.Held.{Sized, Starts, AtMost, Same};
+ghost use Rattle.equations.specs.Held.{Sized, Starts, AtMost, Marks};
 ghost use Rattle.equations.specs.Rounds.{nextMark, RoundTo};
 
 // The mark of entry (p, z, q) after one more round: 1 where f of the marks is above 0.
@@ -77,8 +76,8 @@ fn round(
     next
 }
 
-// Whether the first n marks are the same.
-fn same(a: &[u32; 1024], b: &[u32; 1024], n: usize) -> bool
+// Whether the first n numbers are the same.
+pub fn same(a: &[u32; 1024], b: &[u32; 1024], n: usize) -> bool
     requires { ⌜ n ≤ 1024 ⌝ }
     ensures { λ r. ⌜ (r ≡ true) ↔ ((e : ℕ) → e < n → getD (now (a .entry)) e 0 ≡ getD (now (b .entry)) e 0) ⌝ }
 {
@@ -95,7 +94,7 @@ fn same(a: &[u32; 1024], b: &[u32; 1024], n: usize) -> bool
 // The live marks: as many rounds as there are entries, or fewer once a round changes nothing.
 pub fn marks(model: &[u8], starts: &[usize; 129], s: usize, g: usize) -> [u32; 1024]
     requires { ⌜ Sized (now model) s g × Starts (now model) g (s * g) (now starts) ⌝ }
-    ensures { λ r. ⌜ AtMost 1 r × Same s g (entries s g r) (alive (rulesOf (now (model .entry))) s g) ⌝ }
+    ensures { λ r. ⌜ Marks s g (alive (rulesOf (now (model .entry))) s g) r ⌝ }
 {
     let n = s * g * s;
     let mut marks = [0u32; 1024];

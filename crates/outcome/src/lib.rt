@@ -5,7 +5,7 @@ ghost use lib.IntN.{pos};
 ghost use Rattle.outcome.specs.Reasons.{numberOf};
 ghost use Rattle.outcome.specs.Differences.{difference};
 
-// Why a file is refused. The number of each is `numberOf` of specs/Reasons.antt.
+// Why a file is refused, or a call on the register. The number of each is `numberOf` of specs/Reasons.antt.
 pub enum Reason {
     ModelLength,
     OutOfRange,
@@ -21,6 +21,11 @@ pub enum Reason {
     LowerAboveUpper,
     LowerTooLarge,
     MeanTooSmall,
+    NoModel,
+    ModelHeld,
+    NoDelivery,
+    NotOfModel,
+    NoBlock,
 }
 
 // What a check answers: accepted, or the first failing test's reason, place and shortfall.
@@ -52,6 +57,11 @@ pub fn number(reason: Reason) -> u32
         Reason::LowerAboveUpper => 25,
         Reason::LowerTooLarge => 26,
         Reason::MeanTooSmall => 27,
+        Reason::NoModel => 40,
+        Reason::ModelHeld => 41,
+        Reason::NoDelivery => 42,
+        Reason::NotOfModel => 44,
+        Reason::NoBlock => 43,
     }
 }
 

@@ -27,7 +27,7 @@ margin-of-requires c κs =
       pre .0,
       c .before .before .before .before .before .before .before .starts .ensures,
       accepted-in-range (pre .0) (pre .3) e values,
-      accepted-strict (pre .0) _ (marks .result) e (marks .ensures .1) values (pre .3) (pre .1) (pre .2),
+      accepted-strict (pre .0) _ (marks .result) e (marks .ensures .marks) values (pre .3) (pre .1) (pre .2),
     )
 
 returns : tie.Need-returns
@@ -35,7 +35,7 @@ returns c =
     let sized = c .before .before .before .before .before .before .before .before .before .before .before .pre .0 in
     let marks = c .before .before .before .before .before .before .marks in
     let e = c .before .before .before .before .before .entries .ensures .0 in
-    margin-found sized _ (marks .result) e (marks .ensures .1) (c .before .before .before .before .values .ensures) (c .margin-of .ensures)
+    margin-found sized _ (marks .result) e (marks .ensures .marks) (c .before .before .before .before .values .ensures) (c .margin-of .ensures)
 
 pub margin-with-lowers-spec : {M : Type 1} → statement M
 margin-with-lowers-spec =

@@ -1,5 +1,5 @@
 -- `live_marks`: zeros for a refused model, and the marks by rounds for an accepted one.
-use mathlib.Core.Path.{sym, _∙_}
+use mathlib.Core.Path.{refl, sym, _∙_}
 use Rattle.equations.proofs.Shown.{sized-of, none-live, live-of}
 use borrow.Author.Needs.{needs}
 use Rattle.equations.proofs.live_marks.Statement.{statement}
@@ -12,7 +12,7 @@ enum-told : tie.Need-enum-told
 enum-told c = search needs
 
 returns : tie.Need-returns
-returns c = none-live _ 1024 (sym (c .before .before .check .ensures) ∙ c .enum-told .given .1)
+returns c = none-live _ 1024 refl (sym (c .before .before .check .ensures) ∙ c .enum-told .given .1)
 
 enum-told-2 : tie.Need-enum-told-2
 enum-told-2 c = search needs
@@ -30,7 +30,7 @@ marks-requires : tie.Need-marks-requires
 marks-requires c κs = (sized-of (sym (c .before .before .before .before .before .before .check .ensures) ∙ c .before .before .before .before .enum-told2 .given .1) (c .before .before .before .states .ensures .0) (c .before .before .symbols .ensures .0), c .before .starts .ensures)
 
 returns-2 : tie.Need-returns-2
-returns-2 c = live-of (sym (c .before .before .before .before .before .before .before .check .ensures) ∙ c .before .before .before .before .before .enum-told2 .given .1) (c .before .before .before .before .states .ensures .0) (c .before .before .before .symbols .ensures .0) (c .marks .ensures .0) (c .marks .ensures .1)
+returns-2 c = live-of _ (sym (c .before .before .before .before .before .before .before .check .ensures) ∙ c .before .before .before .before .before .enum-told2 .given .1) (c .before .before .before .before .states .ensures .0) (c .before .before .before .symbols .ensures .0) (c .marks .ensures)
 
 pub live-marks-spec : {M : Type 1} → statement M
 live-marks-spec =

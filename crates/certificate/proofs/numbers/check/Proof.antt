@@ -42,7 +42,7 @@ returns c =
     let marks = values .before .marks in
     let e = values .before .before .before .before .entries .ensures .0 in
     let sized = values .before .before .before .before .before .before .before .pre .0 in
-    dead-uppers-decide sized _ _ (marks .result) e (marks .ensures .1) (values .values .ensures)
+    dead-uppers-decide sized _ _ (marks .result) e (marks .ensures .marks) (values .values .ensures)
     _ (c .before .before .check-dead .ensures) (c .enum-told .given .1)
 
 enum-told-2 : tie.Need-enum-told-2
@@ -63,7 +63,7 @@ returns-2 c =
     let e = values .before .before .before .before .entries .ensures .0 in
     let sized = values .before .before .before .before .before .before .before .pre .0 in
     let dead = c .before .before .before .before .before .before .check-dead .ensures in
-    rest-decides sized _ _ (marks .result) e (marks .ensures .1) (values .values .ensures) _ _
+    rest-decides sized _ _ (marks .result) e (marks .ensures .marks) (values .values .ensures) _ _
     dead (c .before .before .before .before .enum-told2 .given .1) (c .check-rest .ensures)
 
 pub check-spec : {M : Type 1} → statement M

@@ -1,8 +1,6 @@
 -- `values`: after e turns the list has the values of the first e records, and 0 from there on.
 use Prim.Native.Nat.{_-_, _≤_}
 use native.Mathlib.Omega.{arith}
-use mathlib.Core.Path.{_≡_, refl}
-use lib.ListN.{length, length-set}
 use borrow.Author.Needs.{needs}
 use Rattle.delivery.specs.Walks.{Values}
 use Rattle.delivery.proofs.Walks.{values-none, values-step, values-end}
@@ -10,13 +8,13 @@ use Rattle.delivery.proofs.numbers.values.Statement.{statement}
 use Rattle.delivery.proofs.numbers.values.Tie as tie
 
 abbrev Inv-loop : tie.InvT-loop
-Inv-loop block n values₀ e₀ values e = (e ≤ n) × (length values ≡ 1024) × Values block e values
+Inv-loop block n values₀ e₀ values e = (e ≤ n) × Values block e values
 
 abbrev μ-loop : tie.MeasureT-loop
 μ-loop block n values₀ e₀ values e = n - e
 
 loop-holds : tie.Need-loop-holds Inv-loop μ-loop
-loop-holds c = (search needs, refl, values-none _)
+loop-holds c = (search needs, values-none _)
 
 value-of-requires : tie.Need-value-of-requires Inv-loop μ-loop
 value-of-requires c κs = search needs
@@ -28,7 +26,7 @@ mul-values : tie.Need-mul-values Inv-loop μ-loop
 mul-values c = search needs
 
 array-write-values : tie.Need-array-write-values Inv-loop μ-loop
-array-write-values c = search needs
+array-write-values c = omega (arith, c .before .before .loop .inv .1 .size)
 
 add-e : tie.Need-add-e Inv-loop μ-loop
 add-e c = search needs
@@ -39,10 +37,10 @@ loop-less c = search needs
 loop-again : tie.Need-loop-again Inv-loop μ-loop
 loop-again c =
     let inv = c .before .before .loop .inv in
-    (omega arith, simp length-set (inv .1), values-step _ (inv .2) (omega arith) (c .value-of .ensures .0))
+    (omega arith, values-step _ (inv .1) (omega arith) (c .value-of .ensures .0))
 
 returns : tie.Need-returns Inv-loop μ-loop
-returns c = values-end (c .before .loop .inv .2) (omega arith)
+returns c = values-end (c .before .loop .inv .1) (omega arith)
 
 pub values-spec : {M : Type 1} → statement M
 values-spec =

@@ -55,7 +55,7 @@ loop-again c =
     let start = c .before .before .before .before .before in
     let inv = c .before .before .loop .inv in
     let mark = c .next-mark .ensures in
-    let more = round-more (start .args .p) (inv .2) (start .pre .4) (c .before .loop-test .taken) (omega arith) (placed c) (mark .0) (mark .1) in
+    let more = round-more (start .args .p) (inv .2) (start .pre .3) (start .pre .4) (c .before .loop-test .taken) (omega arith) (placed c) (mark .0) (mark .1) in
     (inv .0, omega arith, round-at more (omega arith))
 
 returns : tie.Need-returns Inv-loop μ-loop

@@ -1,0 +1,57 @@
+-- The blocks of a delivery as the register holds them: the lists of values that the code reads are the definition's.
+use Prim.Native.Nat.{ℕ, _+_, _-_, _*_, _≤_}
+use native.Mathlib.Omega.{arith}
+use mathlib.Core.Bool.{Bool, true, false}
+use mathlib.Core.List.{List}
+use mathlib.Core.Path.{_≡_, _∙_}
+use lib.ListN.{length, take, drop, replicate, length-drop}
+use lib.Seq.{take-all}
+use Rattle.delivery.specs.declared.shape.Shape.{Shape}
+use Rattle.delivery.specs.Shapes.{entriesIn, rowsIn, meansFrom}
+use Rattle.delivery.specs.Numbers.{rowAt, uppersOf, lowersOf, meansOf}
+use Rattle.delivery.specs.Walks.{Values}
+use Rattle.delivery.proofs.Walks.{rest-value}
+use Rattle.certificate.proofs.Blocks.{values-same, values-rows}
+use Rattle.certificate.proofs.Rest.{rest-lowers}
+use Rattle.register.specs.Held.{listed, listedRows, ifStanding}
+use Rattle.register.proofs.Lists.{listed-is, rows-is}
+
+-- ---- the part of a file from record n on
+
+part-from : (d : List ℕ) (n : ℕ) → take (length d - 8 * n) (drop (8 * n) d) ≡ drop (8 * n) d
+part-from d n = take-all (length d - 8 * n) (drop (8 * n) d) (omega (arith, length-drop (8 * n) d))
+
+-- It has the m records that follow, where n and m are i and j.
+pub part-holds : (d : List ℕ) {n m i j : ℕ} → n ≡ i → m ≡ j → 8 * (i + j) ≤ length d
+    → 8 * m ≤ length (take (length d - 8 * n) (drop (8 * n) d))
+part-holds d {n} start e fits = rw (part-from d n, length-drop (8 * n) d) (omega arith)
+
+-- ---- the numbers of each block, by how many records the code takes
+
+module _ (s g : ℕ) (d : List ℕ) {l : List ℕ} {n : ℕ} where
+  pub uppers-listed : n ≡ entriesIn s g → Values d n l → l ≡ listed s g (uppersOf s g d)
+  uppers-listed e values =
+      let whole : Values d (entriesIn s g) l = rw e at values in
+      listed-is s g (uppersOf s g d) (whole .size) (values-same s g whole) (whole .none)
+
+  pub lowers-listed : n ≡ entriesIn s g → Values (take (length d - 8 * n) (drop (8 * n) d)) n l → l ≡ listed s g (lowersOf s g d)
+  lowers-listed e values =
+      let whole : Values (drop (8 * entriesIn s g) d) (entriesIn s g) l = rw (part-from d n, e) at values in
+      listed-is s g (lowersOf s g d) (whole .size)
+      (λ p z q hp hz hq. values-same s g whole p z q hp hz hq ∙ rest-lowers s g d p z q hp hz hq) (whole .none)
+
+  pub means-listed : (h : Shape) {from : ℕ} → from ≡ meansFrom s g h → n ≡ rowsIn s g
+      → Values (take (length d - 8 * from) (drop (8 * from) d)) n l → l ≡ listedRows s g (meansOf s g h d)
+  unfolding meansOf
+  means-listed h {from} start e values =
+      let whole : Values (drop (8 * meansFrom s g h) d) (rowsIn s g) l = rw (part-from d from, start, e) at values in
+      rows-is s g (meansOf s g h d) (whole .size)
+      (λ p z hp hz. values-rows s g whole p z hp hz ∙ rest-value d (meansFrom s g h) (rowAt g p z)) (whole .none)
+
+-- ---- a block that may be absent
+
+pub where-it-stands : {t : Bool} {l k : List ℕ} → t ≡ true → l ≡ k → l ≡ ifStanding t k
+where-it-stands stands e = rw stands e
+
+pub where-it-does-not : {t : Bool} (k : List ℕ) → t ≡ false → replicate 1024 0 ≡ ifStanding t k
+where-it-does-not k absent = rw absent

@@ -1,0 +1,110 @@
+-- `file_delivery`: no held model refuses, then the verdict does, and else the delivery is filed beside its model.
+use Prim.Native.Nat.{_≤_}
+use native.Mathlib.Omega.{arith}
+use mathlib.Core.Bool.{true}
+use mathlib.Core.Path.{_≡_, sym, _∙_}
+use lib.ListN.{length, take, length-map}
+use lib.Seq.{length-take-le}
+use denote.Ref.{now}
+use borrow.Author.Tests.{not-true, not-false}
+use borrow.Author.Needs.{needs}
+use Rattle.outcome.specs.declared.Outcome.the-variants.{Accepted}
+use Rattle.certificate.specs.Verdict.{verdict}
+use Rattle.certificate.proofs.Steps.{few, sized-by-verdict}
+use Rattle.register.specs.Held.{holdsModel}
+use Rattle.register.proofs.Steps.{held-fits, none-is-held, delivery-refused, delivery-filed}
+use Rattle.register.proofs.Register.file_delivery.Statement.{statement}
+use Rattle.register.proofs.Register.file_delivery.Tie as tie
+
+-- A register's bytes are 10,240: owning it tells so. A held model's file is within them.
+bytes-size : (c : tie.Start) → length (c .args .self .model .bytes) ≡ 10240
+bytes-size c = sym (length-map (c .args .self .model .bytes) (λ v. v)) ∙ c .good .0 .1 .1 .0 .1 .1 .0 .1 .0 .1
+
+holds : (c : tie.Else1) → holdsModel (c .before .before .before .before .args .self .model .length) ≡ true
+holds c = sym (c .before .holds-model .ensures) ∙ not-false _ (c .if1 .left)
+
+within : (c : tie.Else1) → let model = c .before .before .before .before .args .self .model in model .length ≤ length (model .bytes)
+within c = omega (arith, held-fits _ (holds c), bytes-size (c .before .before .before .before))
+
+-- Past the second test the delivery is accepted.
+accepted : (c : tie.After-enum-told2) → let args = c .before .before .before .before .before .before .before .before .before .args in
+    verdict (take (args .self .model .length) (args .self .model .bytes)) (now (args .file)) ≡ Accepted
+accepted c = sym (c .before .before .check .ensures) ∙ c .enum-told2 .given .1
+
+holds-model-requires : tie.Need-holds-model-requires
+holds-model-requires c κs = search needs
+
+refused-requires : tie.Need-refused-requires
+refused-requires c κs = search needs
+
+returns : tie.Need-returns
+returns c = none-is-held _ _ (sym (c .before .before .holds-model .ensures) ∙ not-true _ (c .before .if1 .taken)) (c .refused .ensures)
+
+array-share-prefix-bytes : tie.Need-array-share-prefix-bytes
+array-share-prefix-bytes c = within (c .before)
+
+slice-aggregate-model : tie.Need-slice-aggregate-model
+slice-aggregate-model c = sym (length-take-le _ _ (within (c .before .before)))
+
+check-requires : tie.Need-check-requires
+check-requires c κs = search needs
+
+enum-told : tie.Need-enum-told
+enum-told c = search needs
+
+returns-2 : tie.Need-returns-2
+returns-2 c =
+    let found = c .before .before in
+    delivery-refused _ _ (holds (found .before .before .before)) (found .check .ensures) (c .enum-told .given .1)
+
+enum-told-2 : tie.Need-enum-told-2
+enum-told-2 c = search needs
+
+shape-for-requires : tie.Need-shape-for-requires
+shape-for-requires c κs = accepted c
+
+numbers-of-requires : tie.Need-numbers-of-requires
+numbers-of-requires c κs = (accepted (c .before), c .shape-for .ensures)
+
+states-requires : tie.Need-states-requires
+states-requires c κs = search needs
+
+symbols-requires : tie.Need-symbols-requires
+symbols-requires c κs = search needs
+
+entries-requires : tie.Need-entries-requires
+entries-requires c κs =
+    few (sized-by-verdict _ (accepted (c .before .before .before .before)) (c .before .states .ensures .0) (c .symbols .ensures .0))
+
+mark-by-requires : tie.Need-mark-by-requires
+mark-by-requires c κs = search needs
+
+returns-3 : tie.Need-returns-3
+returns-3 c =
+    let entries = c .before .before in
+    let shape = entries .before .before .before .before in
+    let found = shape .before .before .before in
+    delivery-filed _ _ (holds (found .before .before .before)) (found .check .ensures) (shape .before .enum-told2 .given .1)
+    (shape .shape-for .ensures) (entries .before .before .before .numbers-of .ensures)
+    (entries .before .before .states .ensures .0) (entries .before .symbols .ensures .0) (entries .entries .ensures .0) (c .mark-by .ensures)
+
+pub file-delivery-spec : {M : Type 1} → statement M
+file-delivery-spec =
+    tie.close
+    (tie.spec
+    holds-model-requires
+    refused-requires
+    returns
+    array-share-prefix-bytes
+    slice-aggregate-model
+    check-requires
+    enum-told
+    returns-2
+    enum-told-2
+    shape-for-requires
+    numbers-of-requires
+    states-requires
+    symbols-requires
+    entries-requires
+    mark-by-requires
+    returns-3)

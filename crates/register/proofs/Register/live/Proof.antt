@@ -1,0 +1,26 @@
+-- `live`: the tests and the number are the definition's, at the register's fields.
+use borrow.Author.Needs.{needs}
+use Rattle.register.specs.Questions.{liveIn}
+use Rattle.register.proofs.Register.live.Statement.{statement}
+use Rattle.register.proofs.Register.live.Tie as tie
+
+entry-in-requires : tie.Need-entry-in-requires
+entry-in-requires c κs = search needs
+
+holds-model-requires : tie.Need-holds-model-requires
+holds-model-requires c κs = search needs
+
+has-entry-requires : tie.Need-has-entry-requires
+has-entry-requires c κs = search needs
+
+answered-requires : tie.Need-answered-requires
+answered-requires c κs = search needs
+
+returns : tie.Need-returns
+unfolding liveIn
+returns c = cc
+
+pub live-spec : {M : Type 1} → statement M
+live-spec =
+    tie.close
+    (tie.spec entry-in-requires holds-model-requires has-entry-requires answered-requires returns)

@@ -1,0 +1,39 @@
+-- `lower`: the tests and the number are the definition's, at the register's fields.
+use borrow.Author.Needs.{needs}
+use Rattle.register.specs.Questions.{lowerIn}
+use Rattle.register.proofs.Register.lower.Statement.{statement}
+use Rattle.register.proofs.Register.lower.Tie as tie
+
+entry-in-requires : tie.Need-entry-in-requires
+entry-in-requires c κs = search needs
+
+holds-model-requires : tie.Need-holds-model-requires
+holds-model-requires c κs = search needs
+
+is-held-requires : tie.Need-is-held-requires
+is-held-requires c κs = search needs
+
+has-entry-requires : tie.Need-has-entry-requires
+has-entry-requires c κs = search needs
+
+lowers-stand-requires : tie.Need-lowers-stand-requires
+lowers-stand-requires c κs = search needs
+
+answered-requires : tie.Need-answered-requires
+answered-requires c κs = search needs
+
+returns : tie.Need-returns
+unfolding lowerIn
+returns c = cc
+
+pub lower-spec : {M : Type 1} → statement M
+lower-spec =
+    tie.close
+    (tie.spec
+    entry-in-requires
+    holds-model-requires
+    is-held-requires
+    has-entry-requires
+    lowers-stand-requires
+    answered-requires
+    returns)

@@ -1,0 +1,31 @@
+-- `margin`: the tests and the number are the definition's, at the register's fields.
+use borrow.Author.Needs.{needs}
+use Rattle.register.specs.Questions.{marginIn}
+use Rattle.register.proofs.Register.margin.Statement.{statement}
+use Rattle.register.proofs.Register.margin.Tie as tie
+
+holds-model-requires : tie.Need-holds-model-requires
+holds-model-requires c κs = search needs
+
+is-held-requires : tie.Need-is-held-requires
+is-held-requires c κs = search needs
+
+lowers-stand-requires : tie.Need-lowers-stand-requires
+lowers-stand-requires c κs = search needs
+
+answered-requires : tie.Need-answered-requires
+answered-requires c κs = search needs
+
+returns : tie.Need-returns
+unfolding marginIn
+returns c = cc
+
+pub margin-spec : {M : Type 1} → statement M
+margin-spec =
+    tie.close
+    (tie.spec
+    holds-model-requires
+    is-held-requires
+    lowers-stand-requires
+    answered-requires
+    returns)

@@ -1,0 +1,39 @@
+-- `mean_steps`: the tests and the number are the definition's, at the register's fields.
+use borrow.Author.Needs.{needs}
+use Rattle.register.specs.Questions.{meanIn}
+use Rattle.register.proofs.Register.mean_steps.Statement.{statement}
+use Rattle.register.proofs.Register.mean_steps.Tie as tie
+
+row-in-requires : tie.Need-row-in-requires
+row-in-requires c κs = search needs
+
+holds-model-requires : tie.Need-holds-model-requires
+holds-model-requires c κs = search needs
+
+is-held-requires : tie.Need-is-held-requires
+is-held-requires c κs = search needs
+
+has-row-requires : tie.Need-has-row-requires
+has-row-requires c κs = search needs
+
+means-stand-requires : tie.Need-means-stand-requires
+means-stand-requires c κs = search needs
+
+answered-requires : tie.Need-answered-requires
+answered-requires c κs = search needs
+
+returns : tie.Need-returns
+unfolding meanIn
+returns c = cc
+
+pub mean-steps-spec : {M : Type 1} → statement M
+mean-steps-spec =
+    tie.close
+    (tie.spec
+    row-in-requires
+    holds-model-requires
+    is-held-requires
+    has-row-requires
+    means-stand-requires
+    answered-requires
+    returns)

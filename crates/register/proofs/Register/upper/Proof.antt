@@ -1,0 +1,35 @@
+-- `upper`: the tests and the number are the definition's, at the register's fields.
+use borrow.Author.Needs.{needs}
+use Rattle.register.specs.Questions.{upperIn}
+use Rattle.register.proofs.Register.upper.Statement.{statement}
+use Rattle.register.proofs.Register.upper.Tie as tie
+
+entry-in-requires : tie.Need-entry-in-requires
+entry-in-requires c κs = search needs
+
+holds-model-requires : tie.Need-holds-model-requires
+holds-model-requires c κs = search needs
+
+is-held-requires : tie.Need-is-held-requires
+is-held-requires c κs = search needs
+
+has-entry-requires : tie.Need-has-entry-requires
+has-entry-requires c κs = search needs
+
+answered-requires : tie.Need-answered-requires
+answered-requires c κs = search needs
+
+returns : tie.Need-returns
+unfolding upperIn
+returns c = cc
+
+pub upper-spec : {M : Type 1} → statement M
+upper-spec =
+    tie.close
+    (tie.spec
+    entry-in-requires
+    holds-model-requires
+    is-held-requires
+    has-entry-requires
+    answered-requires
+    returns)

@@ -1,0 +1,54 @@
+// What the calls on a register answer.
+
+use outcome::Reason;
+ghost use mathlib.Core.Path.{_≡_};
+ghost use lib.IntN.{pos};
+ghost use Rattle.register.specs.Questions.{answered};
+
+// The mark of an accepted delivery; absent where none was accepted.
+pub enum Mark {
+    Known,
+    New,
+    Absent,
+}
+
+// The answer to a question: a number, or a refusal.
+pub enum Answer {
+    Value(u64),
+    Refused {
+        reason: Reason,
+        place: usize,
+        shortfall: i64,
+    },
+}
+
+// A refusal found in the register: its place and its shortfall are 0.
+fn refused(reason: Reason) -> Answer
+    ensures { λ r. ⌜ r ≡ Answer.Refused reason 0 (pos 0) ⌝ }
+{
+    Answer::Refused {
+        reason,
+        place: 0,
+        shortfall: 0,
+    }
+}
+
+// The answer to a question: the first reason that applies, by whether a model is held, whether a delivery is held, whether the states and
+// symbols are the model's and whether the block stands; or the number.
+pub(crate) fn answered(model: bool, delivery: bool, inside: bool, block: bool, value: u64) -> Answer
+    ensures { λ r. ⌜ r ≡ answered model delivery inside block value ⌝ }
+{
+    if !model {
+        return refused(Reason::NoModel);
+    }
+    if !delivery {
+        return refused(Reason::NoDelivery);
+    }
+    if !inside {
+        return refused(Reason::NotOfModel);
+    }
+    if !block {
+        return refused(Reason::NoBlock);
+    }
+    Answer::Value(value)
+}

@@ -1,0 +1,237 @@
+// The register, a value: it holds at most one model and one delivery, takes filings and answers questions. A refused call leaves it as it is.
+
+use answer::Answer;
+use answer::Mark;
+use answer::answered;
+use delivery::shape::entries;
+use filing::mark_by;
+use filing::model_of;
+use filing::numbers_of;
+use filing::shape_for;
+use held::HeldDelivery;
+use held::HeldModel;
+use held::Numbers;
+use held::holds_model;
+use held::is_held;
+use held::lowers_stand;
+use held::means_stand;
+use held::no_model;
+use held::no_numbers;
+use model::sizes::states;
+use model::sizes::symbols;
+use outcome::Outcome;
+use outcome::Reason;
+use outcome::refused;
+use places::entry_in;
+use places::has_entry;
+use places::has_row;
+use places::row_in;
+
+pub mod answer; // answer.rt: what the calls answer
+mod filing; // filing.rt: what an accepted file becomes in the register
+pub mod held; // held.rt: what the register holds
+mod places; // places.rt: a held number by its entry or its row
+
+ghost use mathlib.Core.Path.{_≡_};
+ghost use Rattle.register.specs.Filing.{cleared, fileModel, fileDelivery};
+ghost use Rattle.register.specs.Questions.{upperIn, lowerIn, meanIn, marginIn, liveIn};
+
+// At most one model and one delivery: the held delivery's shape, and its numbers beside it.
+pub struct Register {
+    model: HeldModel,
+    delivery: HeldDelivery,
+    numbers: Numbers,
+}
+
+// What filing a model gives: the register after it, and the outcome.
+pub struct Filed {
+    pub register: Register,
+    pub outcome: Outcome,
+}
+
+// What filing a delivery gives: the register after it, the outcome, and the mark of an accepted delivery.
+pub struct Received {
+    pub register: Register,
+    pub outcome: Outcome,
+    pub mark: Mark,
+}
+
+impl Register {
+    // A register that holds nothing.
+    pub fn empty() -> Register
+        ensures { λ r. ⌜ r ≡ cleared ⌝ }
+    {
+        Register {
+            model: no_model(),
+            delivery: HeldDelivery::Nothing,
+            numbers: no_numbers(),
+        }
+    }
+
+    // The register after clearing, which is allowed when it is empty.
+    pub fn clear(self) -> Register
+        ensures { λ r. ⌜ r ≡ cleared ⌝ }
+    {
+        Register::empty()
+    }
+
+    // Files a model.
+    pub fn file_model(self, file: &[u8]) -> Filed
+        ensures { λ r. ⌜ r ≡ fileModel self (now (file .entry)) ⌝ }
+    {
+        let held = self.model;
+        let length = held.length;
+        if holds_model(length) {
+            return Filed {
+                register: self,
+                outcome: refused(Reason::ModelHeld, 0),
+            };
+        }
+        let found = model::check(file);
+        if let Outcome::Refused { .. } = found {
+            return Filed {
+                register: self,
+                outcome: found,
+            };
+        }
+        Filed {
+            register: Register {
+                model: model_of(file),
+                delivery: HeldDelivery::Nothing,
+                numbers: no_numbers(),
+            },
+            outcome: found,
+        }
+    }
+
+    // Files a delivery for the held model.
+    pub fn file_delivery(self, file: &[u8]) -> Received
+        ensures { λ r. ⌜ r ≡ fileDelivery self (now (file .entry)) ⌝ }
+    {
+        let held = self.model;
+        let length = held.length;
+        if !holds_model(length) {
+            return Received {
+                register: self,
+                outcome: refused(Reason::NoModel, 0),
+                mark: Mark::Absent,
+            };
+        }
+        let bytes = held.bytes;
+        let model = &bytes[..length];
+        let found = certificate::check(model, file);
+        if let Outcome::Refused { .. } = found {
+            return Received {
+                register: self,
+                outcome: found,
+                mark: Mark::Absent,
+            };
+        }
+        let shape = shape_for(model, file);
+        let numbers = numbers_of(model, file, shape);
+        let n = entries(states(model), symbols(model));
+        let delivery = self.delivery;
+        let former = self.numbers;
+        let mark = mark_by(delivery, n, former, numbers);
+        Received {
+            register: Register {
+                model: held,
+                delivery: HeldDelivery::Of(shape),
+                numbers,
+            },
+            outcome: found,
+            mark,
+        }
+    }
+
+    // The upper of an entry.
+    pub fn upper(self, p: usize, z: usize, q: usize) -> Answer
+        ensures { λ r. ⌜ r ≡ upperIn self p z q ⌝ }
+    {
+        let s = self.model.states;
+        let g = self.model.symbols;
+        let uppers = self.numbers.uppers;
+        let value = entry_in(&uppers, s, g, p, z, q);
+        let length = self.model.length;
+        let delivery = self.delivery;
+        answered(
+            holds_model(length),
+            is_held(delivery),
+            has_entry(s, g, p, z, q),
+            true,
+            value,
+        )
+    }
+
+    // The lower of an entry.
+    pub fn lower(self, p: usize, z: usize, q: usize) -> Answer
+        ensures { λ r. ⌜ r ≡ lowerIn self p z q ⌝ }
+    {
+        let s = self.model.states;
+        let g = self.model.symbols;
+        let lowers = self.numbers.lowers;
+        let value = entry_in(&lowers, s, g, p, z, q);
+        let length = self.model.length;
+        let delivery = self.delivery;
+        answered(
+            holds_model(length),
+            is_held(delivery),
+            has_entry(s, g, p, z, q),
+            lowers_stand(delivery),
+            value,
+        )
+    }
+
+    // The mean steps of a row.
+    pub fn mean_steps(self, p: usize, z: usize) -> Answer
+        ensures { λ r. ⌜ r ≡ meanIn self p z ⌝ }
+    {
+        let s = self.model.states;
+        let g = self.model.symbols;
+        let means = self.numbers.means;
+        let value = row_in(&means, s, g, p, z);
+        let length = self.model.length;
+        let delivery = self.delivery;
+        answered(
+            holds_model(length),
+            is_held(delivery),
+            has_row(s, g, p, z),
+            means_stand(delivery),
+            value,
+        )
+    }
+
+    // The margin.
+    pub fn margin(self) -> Answer
+        ensures { λ r. ⌜ r ≡ marginIn self ⌝ }
+    {
+        let length = self.model.length;
+        let delivery = self.delivery;
+        let value = self.numbers.margin;
+        answered(
+            holds_model(length),
+            is_held(delivery),
+            true,
+            lowers_stand(delivery),
+            value,
+        )
+    }
+
+    // The live mark of an entry, which needs a model only.
+    pub fn live(self, p: usize, z: usize, q: usize) -> Answer
+        ensures { λ r. ⌜ r ≡ liveIn self p z q ⌝ }
+    {
+        let s = self.model.states;
+        let g = self.model.symbols;
+        let marks = self.model.live;
+        let value = entry_in(&marks, s, g, p, z, q);
+        let length = self.model.length;
+        answered(
+            holds_model(length),
+            true,
+            has_entry(s, g, p, z, q),
+            true,
+            value,
+        )
+    }
+}
