@@ -1,5 +1,6 @@
--- The laws of a model file: its records and rows, what acceptance means, and the verdict step by step.
+-- The laws of a model file: its records and rows, what acceptance means, the place of a refusal, and the verdict step by step.
 pub mod Records
 pub mod Rows
 pub mod Accepted
+pub mod Places
 pub mod Verdict

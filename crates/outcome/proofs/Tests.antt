@@ -1,9 +1,9 @@
--- The laws of lists of tests: when the outcome is acceptance, which test a refusal names, and how a loop finds it.
+-- The laws of lists of tests: when the outcome is acceptance, which test a refusal names, how a loop finds it, and what bounds its place.
 use Prim.Native.Nat.{ℕ, zero, suc, _+_, _<_}
 use native.Mathlib.Nat.{eq-or-lt-of-le, le-of-suc-le-suc}
 use native.Mathlib.Numerals.{add-one}
 use native.Mathlib.Omega.{arith}
-use mathlib.Core.Bool.{Bool, true, false}
+use mathlib.Core.Bool.{Bool, true, false, false≢true}
 use mathlib.Core.List.{List, [], _∷_, _++_}
 use mathlib.Core.Logic.{_↔_, _⊎_, inl, inr}
 use mathlib.Core.Path.{_≡_, refl, sym, ap, ap₂, _∙_}
@@ -11,7 +11,7 @@ use lib.IntN.{ℤ}
 use Rattle.outcome.specs.declared.Reason.{Reason}
 use Rattle.outcome.specs.declared.Outcome.{Outcome}
 use Rattle.outcome.specs.declared.Outcome.the-variants.{Accepted, Refused}
-use Rattle.outcome.specs.Tests.{Test, refusal, first, each, Passed, FirstFailure}
+use Rattle.outcome.specs.Tests.{Test, refusal, isRefused, first, each, Passed, FirstFailure}
 
 -- ---- one test in front
 
@@ -40,6 +40,11 @@ first-empty = refl
 -- No refusal is an acceptance.
 pub refusal-not-accepted : (o : Outcome) {r : Reason} {i : ℕ} {k : ℤ} → o ≡ Accepted → o ≡ Refused r i k → ⊥
 refusal-not-accepted o a e = let z : _≡_ {A = ℕ} 0 1 = cc in omega arith
+
+-- What is not refused is accepted.
+pub not-refused : (o : Outcome) → isRefused o ≡ false → o ≡ Accepted
+not-refused Accepted e = refl
+not-refused (Refused r i k) e = absurd (false≢true (sym e))
 
 accepted-cons : (t : Test) (ts : List Test) → first (t ∷ ts) ≡ Accepted → (t .fails ≡ false) × (first ts ≡ Accepted)
 accepted-cons t ts e =
@@ -171,3 +176,34 @@ passed-each (suc n) h = (
   λ p i l. let q = passed-append (each n h) (h n) .0 p in last-or-below i n l (λ e. rw e (q .1)) (λ b. passed-each n h .0 (q .0) i b),
   λ p. passed-append (each n h) (h n) .1 (passed-each n h .1 (λ i l. p i (omega arith)), p n (omega arith)),
 )
+
+-- ---- the place of a refusal
+
+-- Where the tests refuse, the place is below n.
+pub record PlacesBelow (n : ℕ) (ts : List Test) : Type 0 where
+  pub refused : (r : Reason) (i : ℕ) (k : ℤ) → first ts ≡ Refused r i k → i < n
+
+pub places-none : {n : ℕ} → PlacesBelow n []
+places-none = record { refused = λ r i k e. absurd (refusal-not-accepted (first []) first-empty e) }
+
+pub places-cons : {n : ℕ} {t : Test} {ts : List Test} → t .place < n → (t .fails ≡ false → PlacesBelow n ts) → PlacesBelow n (t ∷ ts)
+places-cons {n} {t} {ts} h rest =
+    record {
+      refused = λ r i k e. by-test t
+          (λ f. let named : refusal t ≡ Refused r i k = sym (first-fails t ts f) ∙ e in let same : t .place ≡ i = cc in omega arith)
+          (λ f. rest f .refused r i k (sym (first-passes t ts f) ∙ e));
+    }
+
+-- Of two lists the second refuses only where the first has passed.
+pub places-append : {n : ℕ} {xs ys : List Test} → PlacesBelow n xs → (first xs ≡ Accepted → PlacesBelow n ys) → PlacesBelow n (xs ++ ys)
+places-append {n} {xs} {ys} f g = record { refused = λ r i k e. go r i k e (first xs) refl }
+  where
+    go : (r : Reason) (i : ℕ) (k : ℤ) → first (xs ++ ys) ≡ Refused r i k → (o : Outcome) → first xs ≡ o → i < n
+    go r i k e Accepted q = g q .refused r i k (sym (first-after xs ys q) ∙ e)
+    go r i k e (Refused r′ i′ k′) q =
+        f .refused r i k (sym (first-stands xs ys (λ a. refusal-not-accepted (first xs) a q)) ∙ e)
+
+pub places-each : {n : ℕ} (m : ℕ) {h : ℕ → List Test} → ((i : ℕ) → i < m → PlacesBelow n (h i)) → PlacesBelow n (each m h)
+unfolding each
+places-each zero f = places-none
+places-each (suc m) f = places-append (places-each m (λ i l. f i (omega arith))) (λ a. f m (omega arith))

@@ -25,6 +25,11 @@ plain t r i = record { fails = t; reason = r; place = i; shortfall = pos 0 }
 abbrev pub refusal : Test → Outcome
 refusal t = Refused (t .reason) (t .place) (t .shortfall)
 
+-- Whether an outcome is a refusal.
+abbrev pub isRefused : Outcome → Bool
+isRefused Accepted = false
+isRefused (Refused r i k) = true
+
 -- The outcome of a list of tests: the first that fails.
 unfoldable pub first : List Test → Outcome
 first [] = Accepted

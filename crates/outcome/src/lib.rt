@@ -3,6 +3,7 @@
 ghost use mathlib.Core.Path.{_≡_};
 ghost use lib.IntN.{pos};
 ghost use Rattle.outcome.specs.Reasons.{numberOf};
+ghost use Rattle.outcome.specs.Tests.{isRefused};
 ghost use Rattle.outcome.specs.Differences.{difference};
 
 // Why a file is refused, or a call on the register. The number of each is `numberOf` of specs/Reasons.antt.
@@ -73,6 +74,16 @@ pub fn refused(reason: Reason, place: usize) -> Outcome
         reason,
         place,
         shortfall: 0,
+    }
+}
+
+// Whether an outcome is a refusal.
+pub fn is_refused(outcome: Outcome) -> bool
+    ensures { λ r. ⌜ r ≡ isRefused outcome ⌝ }
+{
+    match outcome {
+        Outcome::Accepted => false,
+        Outcome::Refused { .. } => true,
     }
 }
 

@@ -1,17 +1,18 @@
 -- What an accepted file becomes, and what each filing gives, as the code finds it.
 use Prim.Native.Nat.{ℕ, _≤_}
 use native.Mathlib.Omega.{arith}
-use mathlib.Core.Bool.{Bool, true, false, cond, _&&_, and-eq-true-iff}
+use mathlib.Core.Bool.{Bool, true, false, false≢true, cond, _&&_, and-eq-true-iff}
 use mathlib.Core.List.{List}
-use mathlib.Core.Path.{_≡_}
+use mathlib.Core.Path.{_≡_, refl}
 use lib.Dec.{ltb, leb}
-use lib.IntN.{ℤ, pos}
+use lib.IntN.{pos}
 use lib.ListN.{length, take}
 use borrow.Author.Tests.{leb-true}
-use Rattle.outcome.specs.declared.Reason.{Reason}
 use Rattle.outcome.specs.declared.Reason.the-variants.{NoModel, ModelHeld}
 use Rattle.outcome.specs.declared.Outcome.{Outcome}
 use Rattle.outcome.specs.declared.Outcome.the-variants.{Accepted, Refused}
+use Rattle.outcome.specs.Tests.{isRefused}
+use Rattle.outcome.proofs.Tests.{not-refused}
 use Rattle.model.specs.Records.{statesOf, symbolsOf}
 use Rattle.model.specs.Verdict.{modelVerdict}
 use Rattle.model.proofs.Accepted.{model-accepted}
@@ -27,16 +28,15 @@ use Rattle.certificate.specs.Verdict.{verdict}
 use Rattle.certificate.specs.Margin.{marginOf}
 use Rattle.certificate.proofs.Accepted.{delivery-accepted}
 use Rattle.register.specs.declared.held.HeldModel.{HeldModel}
-use Rattle.register.specs.declared.held.HeldDelivery.{HeldDelivery}
 use Rattle.register.specs.declared.held.HeldDelivery.the-variants as Held
 use Rattle.register.specs.declared.held.Numbers.{Numbers}
 use Rattle.register.specs.declared.answer.Mark.{Mark}
-use Rattle.register.specs.declared.answer.Mark.the-variants.{Known, New, Absent}
+use Rattle.register.specs.declared.answer.Mark.the-variants.{Known, New}
 use Rattle.register.specs.declared.Register.{Register}
 use Rattle.register.specs.declared.Filed.{Filed}
 use Rattle.register.specs.declared.Received.{Received}
 use Rattle.register.specs.Held.{filled, listed, listedRows, ifStanding, modelHeld, numbersHeld, noNumbers, holdsModel, isHeld}
-use Rattle.register.specs.Filing.{fileOf, withModel, fileModel, shapeFor, sameTo, markBy, fileDelivery}
+use Rattle.register.specs.Filing.{fileOf, withModel, turnedDown, modelBy, fileModel, turnedAway, deliveryBy, shapeFor, sameTo, markBy, fileDelivery}
 use Rattle.register.proofs.Lists.{live-listed}
 use Rattle.register.proofs.Blocks.{uppers-listed}
 
@@ -84,56 +84,60 @@ module _ (b d : List ℕ) {s g : ℕ} (states : s ≡ statesOf b) (symbols : g �
 
 -- ---- the mark of a delivery
 
-module _ (held : HeldDelivery) (n : ℕ) (former numbers : Numbers) {t u : Bool} (is : t ≡ isHeld held)
-    (same : u ≡ sameTo n (former .uppers) (numbers .uppers)) where
-  pub is-known : (t && u) ≡ true → Known ≡ markBy held n former numbers
+module _ (another : Bool) (n : ℕ) (former numbers : Numbers) {u : Bool} (same : u ≡ sameTo n (former .uppers) (numbers .uppers)) where
+  pub is-known : (another && u) ≡ true → Known ≡ markBy another n former numbers
   unfolding markBy
-  is-known e = rw (← is, ← same, e)
+  is-known e = rw (← same, e)
 
-  pub is-new : (t && u) ≡ false → New ≡ markBy held n former numbers
+  pub is-new : (another && u) ≡ false → New ≡ markBy another n former numbers
   unfolding markBy
-  is-new e = rw (← is, ← same, e)
+  is-new e = rw (← same, e)
 
 -- ---- filing a model
 
+-- A refusal leaves the register as it is.
+model-by : (o : Outcome) (r : Register) (b : List ℕ) → isRefused o ≡ true → turnedDown r o ≡ modelBy o r b
+model-by Accepted r b e = absurd (false≢true e)
+model-by (Refused x i k) r b e = refl
+
 module _ (r : Register) (b : List ℕ) where
-  pub one-is-held : {o : Outcome} → holdsModel (r .model .length) ≡ true → o ≡ Refused ModelHeld 0 (pos 0)
-      → _≡_ {A = Filed} (record { register = r; outcome = o }) (fileModel r b)
+  pub one-is-held : {o : Outcome} → holdsModel (r .model .length) ≡ true → o ≡ Refused ModelHeld 0 (pos 0) → turnedDown r o ≡ fileModel r b
   unfolding fileModel
   one-is-held holds e = rw (holds, e)
 
   module _ {o : Outcome} (holds : holdsModel (r .model .length) ≡ false) (found : o ≡ modelVerdict b) where
-    pub model-refused : {x : Reason} {i : ℕ} {k : ℤ} → o ≡ Refused x i k
-        → _≡_ {A = Filed} (record { register = r; outcome = o }) (fileModel r b)
+    pub model-turned-down : isRefused o ≡ true → turnedDown r o ≡ fileModel r b
     unfolding fileModel
-    model-refused e = rw (holds, ← found, e)
+    model-turned-down e = rw (holds, ← found) (model-by o r b e)
 
-    pub model-filed : {m : HeldModel} {n : Numbers} → o ≡ Accepted → m ≡ modelHeld b → n ≡ noNumbers
+    pub model-filed : {m : HeldModel} {n : Numbers} → isRefused o ≡ false → m ≡ modelHeld b → n ≡ noNumbers
         → _≡_ {A = Filed} (record { register = record { model = m; delivery = Held.Nothing; numbers = n }; outcome = o }) (fileModel r b)
     unfolding fileModel withModel
-    model-filed e model numbers = rw (holds, ← found, e, model, numbers)
+    model-filed e model numbers = rw (holds, ← found, not-refused o e, model, numbers)
 
 -- ---- filing a delivery
 
+delivery-by : (o : Outcome) (r : Register) (b d : List ℕ) → isRefused o ≡ true → turnedAway r o ≡ deliveryBy o r b d
+delivery-by Accepted r b d e = absurd (false≢true e)
+delivery-by (Refused x i k) r b d e = refl
+
 module _ (r : Register) (d : List ℕ) {o : Outcome} where
-  pub none-is-held : holdsModel (r .model .length) ≡ false → o ≡ Refused NoModel 0 (pos 0)
-      → _≡_ {A = Received} (record { register = r; outcome = o; mark = Absent }) (fileDelivery r d)
+  pub none-is-held : holdsModel (r .model .length) ≡ false → o ≡ Refused NoModel 0 (pos 0) → turnedAway r o ≡ fileDelivery r d
   unfolding fileDelivery
   none-is-held holds e = rw (holds, e)
 
   module _ (holds : holdsModel (r .model .length) ≡ true) (found : o ≡ verdict (take (r .model .length) (r .model .bytes)) d) where
-    pub delivery-refused : {x : Reason} {i : ℕ} {k : ℤ} → o ≡ Refused x i k
-        → _≡_ {A = Received} (record { register = r; outcome = o; mark = Absent }) (fileDelivery r d)
+    pub delivery-turned-away : isRefused o ≡ true → turnedAway r o ≡ fileDelivery r d
     unfolding fileDelivery fileOf
-    delivery-refused e = rw (holds, ← found, e)
+    delivery-turned-away e = rw (holds, ← found) (delivery-by o r _ d e)
 
-    pub delivery-filed : {h : Shape} {n : Numbers} {s g v : ℕ} {m : Mark} → o ≡ Accepted
+    pub delivery-filed : {h : Shape} {n : Numbers} {s g v : ℕ} {t : Bool} {m : Mark} → isRefused o ≡ false
         → h ≡ shapeFor (take (r .model .length) (r .model .bytes)) d
         → n ≡ numbersHeld (take (r .model .length) (r .model .bytes)) h d
         → s ≡ statesOf (take (r .model .length) (r .model .bytes)) → g ≡ symbolsOf (take (r .model .length) (r .model .bytes))
-        → v ≡ entriesIn s g → m ≡ markBy (r .delivery) v (r .numbers) n
+        → v ≡ entriesIn s g → t ≡ isHeld (r .delivery) → m ≡ markBy t v (r .numbers) n
         → _≡_ {A = Received}
         (record { register = record { model = r .model; delivery = Held.Of h; numbers = n }; outcome = o; mark = m }) (fileDelivery r d)
     unfolding fileDelivery fileOf
-    delivery-filed e shape numbers states symbols entries mark =
-        rw (holds, ← found, e, ← shape, ← numbers, ← states, ← symbols, ← entries, ← mark)
+    delivery-filed e shape numbers states symbols entries another mark =
+        rw (holds, ← found, not-refused o e, ← shape, ← numbers, ← states, ← symbols, ← entries, ← another, ← mark)

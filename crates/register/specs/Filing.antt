@@ -17,7 +17,6 @@ use Rattle.delivery.specs.declared.shape.Shaped.the-variants.{Of, Unknown}
 use Rattle.delivery.specs.Shapes.{entriesIn, shapeOf}
 use Rattle.certificate.specs.Verdict.{verdict}
 use Rattle.register.specs.declared.held.HeldDelivery.the-variants as Held
-use Rattle.register.specs.declared.held.HeldDelivery.{HeldDelivery}
 use Rattle.register.specs.declared.held.Numbers.{Numbers}
 use Rattle.register.specs.declared.answer.Mark.{Mark}
 use Rattle.register.specs.declared.answer.Mark.the-variants.{Known, New, Absent}
@@ -38,10 +37,17 @@ fileOf r = take (r .model .length) (r .model .bytes)
 unfoldable pub withModel : List ℕ → Register
 withModel b = record { model = modelHeld b; delivery = Held.Nothing; numbers = noNumbers }
 
--- Filing the model b: 41 where one is held, else by the verdict. A refused filing leaves the register as it is.
+-- A refused filing leaves the register as it is.
+abbrev pub turnedDown : Register → Outcome → Filed
+turnedDown r o = record { register = r; outcome = o }
+
+abbrev pub turnedAway : Register → Outcome → Received
+turnedAway r o = record { register = r; outcome = o; mark = Absent }
+
+-- Filing the model b: 41 where one is held, else by the verdict.
 abbrev pub modelBy : Outcome → Register → List ℕ → Filed
 modelBy Accepted r b = record { register = withModel b; outcome = Accepted }
-modelBy (Refused x i k) r b = record { register = r; outcome = Refused x i k }
+modelBy (Refused x i k) r b = turnedDown r (Refused x i k)
 
 unfoldable pub fileModel : Register → List ℕ → Filed
 fileModel r b = modelBy (cond (holdsModel (r .model .length)) (Refused ModelHeld 0 (pos 0)) (modelVerdict b)) r b
@@ -63,9 +69,10 @@ allTo h (suc n) = allTo h n && h n
 unfoldable pub sameTo : ℕ → List ℕ → List ℕ → Bool
 sameTo n l k = allTo (λ e. eqb (getD l e 0) (getD k e 0)) n
 
--- The mark of a delivery with these numbers, of n entries: known where one was held whose uppers are the same, else new. "Known" is document 01's term.
-unfoldable pub markBy : HeldDelivery → ℕ → Numbers → Numbers → Mark
-markBy held n former numbers = cond (isHeld held && sameTo n (former .uppers) (numbers .uppers)) Known New
+-- The mark of a delivery with these numbers, of n entries: known where another was held whose uppers are the same, else new. "Known" is
+-- document 01's term.
+unfoldable pub markBy : Bool → ℕ → Numbers → Numbers → Mark
+markBy another n former numbers = cond (another && sameTo n (former .uppers) (numbers .uppers)) Known New
 
 -- The register r with the delivery d of shape h for its model b, and its mark.
 abbrev pub received : Register → List ℕ → Shape → List ℕ → Received
@@ -73,13 +80,13 @@ received r b h d =
     record {
       register = record { model = r .model; delivery = Held.Of h; numbers = numbersHeld b h d };
       outcome = Accepted;
-      mark = markBy (r .delivery) (entriesIn (statesOf b) (symbolsOf b)) (r .numbers) (numbersHeld b h d);
+      mark = markBy (isHeld (r .delivery)) (entriesIn (statesOf b) (symbolsOf b)) (r .numbers) (numbersHeld b h d);
     }
 
--- Filing the delivery d for the held model b: 40 where none is held, else by the verdict. A refused filing leaves the register as it is.
+-- Filing the delivery d for the held model b: 40 where none is held, else by the verdict.
 abbrev pub deliveryBy : Outcome → Register → List ℕ → List ℕ → Received
 deliveryBy Accepted r b d = received r b (shapeFor b d) d
-deliveryBy (Refused x i k) r b d = record { register = r; outcome = Refused x i k; mark = Absent }
+deliveryBy (Refused x i k) r b d = turnedAway r (Refused x i k)
 
 unfoldable pub fileDelivery : Register → List ℕ → Received
 fileDelivery r d = deliveryBy (cond (holdsModel (r .model .length)) (verdict (fileOf r) d) (Refused NoModel 0 (pos 0))) r (fileOf r) d

@@ -1,10 +1,8 @@
 // What an accepted file becomes in the register.
 
 use super::answer::Mark;
-use super::held::HeldDelivery;
 use super::held::HeldModel;
 use super::held::Numbers;
-use super::held::is_held;
 use certificate::margin_with_lowers;
 use delivery::numbers::values;
 use delivery::shape::Shape;
@@ -53,11 +51,14 @@ pub(crate) fn model_of(file: &[u8]) -> HeldModel
     requires { ⌜ modelVerdict (now file) ≡ Accepted ⌝ }
     ensures { λ r. ⌜ r ≡ modelHeld (now (file .entry)) ⌝ }
 {
+    let length = file.len();
+    let s = states(file) as u8;
+    let g = symbols(file) as u8;
     HeldModel {
         bytes: copied(file),
-        length: file.len(),
-        states: states(file) as u8,
-        symbols: symbols(file) as u8,
+        length,
+        states: s,
+        symbols: g,
         live: live_marks(file),
     }
 }
@@ -126,14 +127,14 @@ pub(crate) fn numbers_of(model: &[u8], delivery: &[u8], shape: Shape) -> Numbers
     }
 }
 
-// The mark of a delivery with these numbers, of n entries.
-pub(crate) fn mark_by(held: HeldDelivery, n: usize, former: Numbers, numbers: Numbers) -> Mark
+// The mark of a delivery with these numbers, of n entries, by whether another was held.
+pub(crate) fn mark_by(another: bool, n: usize, former: Numbers, numbers: Numbers) -> Mark
     requires { ⌜ n ≤ 1024 ⌝ }
-    ensures { λ r. ⌜ r ≡ markBy held n former numbers ⌝ }
+    ensures { λ r. ⌜ r ≡ markBy another n former numbers ⌝ }
 {
     let before = former.uppers;
     let after = numbers.uppers;
-    if is_held(held) & same(&before, &after, n) {
+    if another & same(&before, &after, n) {
         Mark::Known
     } else {
         Mark::New

@@ -21,6 +21,7 @@ use model::sizes::states;
 use model::sizes::symbols;
 use outcome::Outcome;
 use outcome::Reason;
+use outcome::is_refused;
 use outcome::refused;
 use places::entry_in;
 use places::has_entry;
@@ -33,7 +34,7 @@ pub mod held; // held.rt: what the register holds
 mod places; // places.rt: a held number by its entry or its row
 
 ghost use mathlib.Core.Path.{_≡_};
-ghost use Rattle.register.specs.Filing.{cleared, fileModel, fileDelivery};
+ghost use Rattle.register.specs.Filing.{cleared, turnedDown, fileModel, turnedAway, fileDelivery};
 ghost use Rattle.register.specs.Questions.{upperIn, lowerIn, meanIn, marginIn, liveIn};
 
 // At most one model and one delivery: the held delivery's shape, and its numbers beside it.
@@ -54,6 +55,24 @@ pub struct Received {
     pub register: Register,
     pub outcome: Outcome,
     pub mark: Mark,
+}
+
+// A refused model leaves the register as it is.
+fn model_refused(register: Register, outcome: Outcome) -> Filed
+    ensures { λ r. ⌜ r ≡ turnedDown register outcome ⌝ }
+{
+    Filed { register, outcome }
+}
+
+// So does a refused delivery, which gets no mark.
+fn delivery_refused(kept: Register, outcome: Outcome) -> Received
+    ensures { λ r. ⌜ r ≡ turnedAway kept outcome ⌝ }
+{
+    Received {
+        register: kept,
+        outcome,
+        mark: Mark::Absent,
+    }
 }
 
 impl Register {
@@ -79,20 +98,13 @@ impl Register {
     pub fn file_model(self, file: &[u8]) -> Filed
         ensures { λ r. ⌜ r ≡ fileModel self (now (file .entry)) ⌝ }
     {
-        let held = self.model;
-        let length = held.length;
+        let length = self.model.length;
         if holds_model(length) {
-            return Filed {
-                register: self,
-                outcome: refused(Reason::ModelHeld, 0),
-            };
+            return model_refused(self, refused(Reason::ModelHeld, 0));
         }
         let found = model::check(file);
-        if let Outcome::Refused { .. } = found {
-            return Filed {
-                register: self,
-                outcome: found,
-            };
+        if is_refused(found) {
+            return model_refused(self, found);
         }
         Filed {
             register: Register {
@@ -111,35 +123,28 @@ impl Register {
         let held = self.model;
         let length = held.length;
         if !holds_model(length) {
-            return Received {
-                register: self,
-                outcome: refused(Reason::NoModel, 0),
-                mark: Mark::Absent,
-            };
+            return delivery_refused(self, refused(Reason::NoModel, 0));
         }
         let bytes = held.bytes;
         let model = &bytes[..length];
-        let found = certificate::check(model, file);
-        if let Outcome::Refused { .. } = found {
-            return Received {
-                register: self,
-                outcome: found,
-                mark: Mark::Absent,
-            };
+        let delivery = self.delivery;
+        let another = is_held(delivery);
+        let former = self.numbers;
+        let verdict = certificate::check(model, file);
+        if is_refused(verdict) {
+            return delivery_refused(self, verdict);
         }
         let shape = shape_for(model, file);
         let numbers = numbers_of(model, file, shape);
         let n = entries(states(model), symbols(model));
-        let delivery = self.delivery;
-        let former = self.numbers;
-        let mark = mark_by(delivery, n, former, numbers);
+        let mark = mark_by(another, n, former, numbers);
         Received {
             register: Register {
                 model: held,
                 delivery: HeldDelivery::Of(shape),
                 numbers,
             },
-            outcome: found,
+            outcome: verdict,
             mark,
         }
     }

@@ -9,10 +9,11 @@ use denote.Ref.{now}
 use borrow.Author.Tests.{not-true, not-false}
 use borrow.Author.Needs.{needs}
 use Rattle.outcome.specs.declared.Outcome.the-variants.{Accepted}
+use Rattle.outcome.proofs.Tests.{not-refused}
 use Rattle.certificate.specs.Verdict.{verdict}
 use Rattle.certificate.proofs.Steps.{few, sized-by-verdict}
 use Rattle.register.specs.Held.{holdsModel}
-use Rattle.register.proofs.Steps.{held-fits, none-is-held, delivery-refused, delivery-filed}
+use Rattle.register.proofs.Steps.{held-fits, none-is-held, delivery-turned-away, delivery-filed}
 use Rattle.register.proofs.Register.file_delivery.Statement.{statement}
 use Rattle.register.proofs.Register.file_delivery.Tie as tie
 
@@ -27,9 +28,11 @@ within : (c : tie.Else1) → let model = c .before .before .before .before .args
 within c = omega (arith, held-fits _ (holds c), bytes-size (c .before .before .before .before))
 
 -- Past the second test the delivery is accepted.
-accepted : (c : tie.After-enum-told2) → let args = c .before .before .before .before .before .before .before .before .before .args in
+accepted : (c : tie.Else2) → let args = c .before .before .before .before .before .before .before .before .before .before .before .args in
     verdict (take (args .self .model .length) (args .self .model .bytes)) (now (args .file)) ≡ Accepted
-accepted c = sym (c .before .before .check .ensures) ∙ c .enum-told2 .given .1
+accepted c =
+    let tested = c .before in
+    sym (tested .before .check .ensures) ∙ not-refused _ (sym (tested .is-refused .ensures) ∙ c .if2 .left)
 
 holds-model-requires : tie.Need-holds-model-requires
 holds-model-requires c κs = search needs
@@ -37,8 +40,14 @@ holds-model-requires c κs = search needs
 refused-requires : tie.Need-refused-requires
 refused-requires c κs = search needs
 
+delivery-refused-requires : tie.Need-delivery-refused-requires
+delivery-refused-requires c κs = search needs
+
 returns : tie.Need-returns
-returns c = none-is-held _ _ (sym (c .before .before .holds-model .ensures) ∙ not-true _ (c .before .if1 .taken)) (c .refused .ensures)
+returns c =
+    let refused = c .before in
+    c .delivery-refused .ensures
+    ∙ none-is-held _ _ (sym (refused .before .before .holds-model .ensures) ∙ not-true _ (refused .before .if1 .taken)) (refused .refused .ensures)
 
 array-share-prefix-bytes : tie.Need-array-share-prefix-bytes
 array-share-prefix-bytes c = within (c .before)
@@ -46,19 +55,25 @@ array-share-prefix-bytes c = within (c .before)
 slice-aggregate-model : tie.Need-slice-aggregate-model
 slice-aggregate-model c = sym (length-take-le _ _ (within (c .before .before)))
 
+is-held-requires : tie.Need-is-held-requires
+is-held-requires c κs = search needs
+
 check-requires : tie.Need-check-requires
 check-requires c κs = search needs
 
-enum-told : tie.Need-enum-told
-enum-told c = search needs
+is-refused-requires : tie.Need-is-refused-requires
+is-refused-requires c κs = search needs
+
+delivery-refused-requires-2 : tie.Need-delivery-refused-requires-2
+delivery-refused-requires-2 c κs = search needs
 
 returns-2 : tie.Need-returns-2
 returns-2 c =
-    let found = c .before .before in
-    delivery-refused _ _ (holds (found .before .before .before)) (found .check .ensures) (c .enum-told .given .1)
-
-enum-told-2 : tie.Need-enum-told-2
-enum-told-2 c = search needs
+    let tested = c .before .before in
+    let found = tested .before in
+    c .delivery-refused2 .ensures
+    ∙ delivery-turned-away _ _ (holds (found .before .before .before .before .before)) (found .check .ensures)
+    (sym (tested .is-refused .ensures) ∙ c .before .if2 .taken)
 
 shape-for-requires : tie.Need-shape-for-requires
 shape-for-requires c κs = accepted c
@@ -81,12 +96,15 @@ mark-by-requires c κs = search needs
 
 returns-3 : tie.Need-returns-3
 returns-3 c =
-    let entries = c .before .before in
+    let entries = c .before in
     let shape = entries .before .before .before .before in
-    let found = shape .before .before .before in
-    delivery-filed _ _ (holds (found .before .before .before)) (found .check .ensures) (shape .before .enum-told2 .given .1)
+    let tested = shape .before .before in
+    let found = tested .before in
+    delivery-filed _ _ (holds (found .before .before .before .before .before)) (found .check .ensures)
+    (sym (tested .is-refused .ensures) ∙ shape .before .if2 .left)
     (shape .shape-for .ensures) (entries .before .before .before .numbers-of .ensures)
-    (entries .before .before .states .ensures .0) (entries .before .symbols .ensures .0) (entries .entries .ensures .0) (c .mark-by .ensures)
+    (entries .before .before .states .ensures .0) (entries .before .symbols .ensures .0) (entries .entries .ensures .0)
+    (found .before .before .is-held .ensures) (c .mark-by .ensures)
 
 pub file-delivery-spec : {M : Type 1} → statement M
 file-delivery-spec =
@@ -94,13 +112,15 @@ file-delivery-spec =
     (tie.spec
     holds-model-requires
     refused-requires
+    delivery-refused-requires
     returns
     array-share-prefix-bytes
     slice-aggregate-model
+    is-held-requires
     check-requires
-    enum-told
+    is-refused-requires
+    delivery-refused-requires-2
     returns-2
-    enum-told-2
     shape-for-requires
     numbers-of-requires
     states-requires

@@ -1,7 +1,8 @@
 -- `file_model`: a held model refuses, then the verdict does, and else the model is filed alone.
 use mathlib.Core.Path.{sym, _∙_}
 use borrow.Author.Needs.{needs}
-use Rattle.register.proofs.Steps.{one-is-held, model-refused, model-filed}
+use Rattle.outcome.proofs.Tests.{not-refused}
+use Rattle.register.proofs.Steps.{one-is-held, model-turned-down, model-filed}
 use Rattle.register.proofs.Register.file_model.Statement.{statement}
 use Rattle.register.proofs.Register.file_model.Tie as tie
 
@@ -11,36 +12,46 @@ holds-model-requires c κs = search needs
 refused-requires : tie.Need-refused-requires
 refused-requires c κs = search needs
 
+model-refused-requires : tie.Need-model-refused-requires
+model-refused-requires c κs = search needs
+
 returns : tie.Need-returns
-returns c = one-is-held _ _ (sym (c .before .before .holds-model .ensures) ∙ c .before .if1 .taken) (c .refused .ensures)
+returns c =
+    let refused = c .before in
+    c .model-refused .ensures ∙ one-is-held _ _ (sym (refused .before .before .holds-model .ensures) ∙ refused .before .if1 .taken) (refused .refused .ensures)
 
 check-requires : tie.Need-check-requires
 check-requires c κs = search needs
 
-enum-told : tie.Need-enum-told
-enum-told c = search needs
+is-refused-requires : tie.Need-is-refused-requires
+is-refused-requires c κs = search needs
+
+model-refused-requires-2 : tie.Need-model-refused-requires-2
+model-refused-requires-2 c κs = search needs
 
 returns-2 : tie.Need-returns-2
 returns-2 c =
-    let found = c .before .before in
-    model-refused _ _ (sym (found .before .before .holds-model .ensures) ∙ found .before .if1 .left) (found .check .ensures)
-    (c .enum-told .given .1)
-
-enum-told-2 : tie.Need-enum-told-2
-enum-told-2 c = search needs
+    let tested = c .before .before in
+    let found = tested .before in
+    c .model-refused2 .ensures
+    ∙ model-turned-down _ _ (sym (found .before .before .holds-model .ensures) ∙ found .before .if1 .left) (found .check .ensures)
+    (sym (tested .is-refused .ensures) ∙ c .before .if2 .taken)
 
 model-of-requires : tie.Need-model-of-requires
-model-of-requires c κs = sym (c .before .before .check .ensures) ∙ c .enum-told2 .given .1
+model-of-requires c κs =
+    let tested = c .before in
+    sym (tested .before .check .ensures) ∙ not-refused _ (sym (tested .is-refused .ensures) ∙ c .if2 .left)
 
 no-numbers-requires : tie.Need-no-numbers-requires
 no-numbers-requires c κs = search needs
 
 returns-3 : tie.Need-returns-3
 returns-3 c =
-    let told = c .before .before in
-    let found = told .before .before in
+    let branch = c .before .before in
+    let tested = branch .before in
+    let found = tested .before in
     model-filed _ _ (sym (found .before .before .holds-model .ensures) ∙ found .before .if1 .left) (found .check .ensures)
-    (told .enum-told2 .given .1) (c .before .model-of .ensures) (c .no-numbers .ensures)
+    (sym (tested .is-refused .ensures) ∙ branch .if2 .left) (c .before .model-of .ensures) (c .no-numbers .ensures)
 
 pub file-model-spec : {M : Type 1} → statement M
 file-model-spec =
@@ -48,11 +59,12 @@ file-model-spec =
     (tie.spec
     holds-model-requires
     refused-requires
+    model-refused-requires
     returns
     check-requires
-    enum-told
+    is-refused-requires
+    model-refused-requires-2
     returns-2
-    enum-told-2
     model-of-requires
     no-numbers-requires
     returns-3)

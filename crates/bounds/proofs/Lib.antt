@@ -1,0 +1,2 @@
+-- The laws of the numbers that C hosts get.
+pub mod Codes

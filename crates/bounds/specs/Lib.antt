@@ -1,0 +1,2 @@
+-- The calls for C hosts.
+pub mod Codes

@@ -1,0 +1,68 @@
+-- The table of exchanges holds, computed on the plain pair; so a register replies as the table has it.
+use mathlib.Core.List.{List, [], _∷_, map}
+use mathlib.Core.Path.{_≡_, refl, ap, _∙_}
+use Rattle.outcome.specs.Tests.{first, each}
+use Rattle.words.specs.Words.{wordAt}
+use Rattle.ppda.specs.Sums.{sign, sum, sumTo, leastTo}
+use Rattle.ppda.specs.Rules.{fits, overRow}
+use Rattle.ppda.specs.Equations.{f, meanSide}
+use Rattle.ppda.specs.Live.{mark, alive}
+use Rattle.ppda.specs.Margin.{share, shareAt, margin}
+use Rattle.model.specs.Records.{recordsOf, field, weight, greatestTo, statesOf, symbolsOf}
+use Rattle.model.specs.Rules.{ruleOf, listTo, rulesOf, rowOf, rowSum}
+use Rattle.model.specs.Verdict.{wholeRecords, rangeAt, unusedAt, weightAt, ascends, recordTests, rowTests, modelTests, modelVerdict}
+use Rattle.delivery.specs.Records.{byteOf, valueOf}
+use Rattle.delivery.specs.Shapes.{meansFrom, recordsIn, longAs, lowersOrMeans, shapeOf}
+use Rattle.delivery.specs.Numbers.{uppersOf, lowersOf, meansOf}
+use Rattle.delivery.specs.Layout as layout
+use Rattle.delivery.specs.Layout.{eachEntry, eachRow, isDue, inRange, upperRecords, lowerRecords, meanRecords, layoutTests}
+use Rattle.inequalities.specs.Inequalities.{deadTest, upperTest, belowTest, lowerTest, meanTest, deadTests, upperTests, belowTests, lowerTests, meanTests}
+use Rattle.equations.specs.Shown.{liveMark}
+use Rattle.certificate.specs.Verdict as verdict
+use Rattle.certificate.specs.Verdict.{numberTests, shapedTests, deliveryTests}
+use Rattle.certificate.specs.Margin.{marginOf}
+use Rattle.register.specs.Filing.{allTo}
+use Rattle.history.specs.Plain.{Event, lastModel, lastDelivery, sameUppers, plain, plainReplies}
+use Rattle.history.specs.Edges.{callOf, replyDue, AllReplied, Replied, nothingHeld, modelHeld, uppersHeld, meansHeld, allHeld}
+use Rattle.history.proofs.Replies.{replies-as-plain}
+
+-- ---- computed
+
+nothing-held : AllReplied [] nothingHeld
+unfolding first each wordAt sign sum sumTo leastTo fits overRow f meanSide mark alive share shareAt margin recordsOf field weight greatestTo statesOf symbolsOf ruleOf listTo rulesOf rowOf rowSum wholeRecords rangeAt unusedAt weightAt ascends recordTests rowTests modelTests modelVerdict byteOf valueOf meansFrom recordsIn longAs lowersOrMeans shapeOf uppersOf lowersOf meansOf eachEntry eachRow isDue inRange layout.recordTests deadTest upperTest belowTest lowerTest meanTest upperRecords lowerRecords meanRecords deadTests upperTests belowTests lowerTests meanTests layoutTests numberTests shapedTests deliveryTests verdict.verdict marginOf liveMark allTo lastModel lastDelivery sameUppers plain
+nothing-held = (refl, (refl, (refl, (refl, (refl, (refl, (refl, (refl, (refl, tt)))))))))
+
+model-held : AllReplied [] modelHeld
+unfolding first each wordAt sign sum sumTo leastTo fits overRow f meanSide mark alive share shareAt margin recordsOf field weight greatestTo statesOf symbolsOf ruleOf listTo rulesOf rowOf rowSum wholeRecords rangeAt unusedAt weightAt ascends recordTests rowTests modelTests modelVerdict byteOf valueOf meansFrom recordsIn longAs lowersOrMeans shapeOf uppersOf lowersOf meansOf eachEntry eachRow isDue inRange layout.recordTests deadTest upperTest belowTest lowerTest meanTest upperRecords lowerRecords meanRecords deadTests upperTests belowTests lowerTests meanTests layoutTests numberTests shapedTests deliveryTests verdict.verdict marginOf liveMark allTo lastModel lastDelivery sameUppers plain
+model-held = (refl, (refl, (refl, (refl, (refl, (refl, (refl, (refl, (refl, (refl, (refl, (refl, (refl, tt)))))))))))))
+
+uppers-held : AllReplied [] uppersHeld
+unfolding first each wordAt sign sum sumTo leastTo fits overRow f meanSide mark alive share shareAt margin recordsOf field weight greatestTo statesOf symbolsOf ruleOf listTo rulesOf rowOf rowSum wholeRecords rangeAt unusedAt weightAt ascends recordTests rowTests modelTests modelVerdict byteOf valueOf meansFrom recordsIn longAs lowersOrMeans shapeOf uppersOf lowersOf meansOf eachEntry eachRow isDue inRange layout.recordTests deadTest upperTest belowTest lowerTest meanTest upperRecords lowerRecords meanRecords deadTests upperTests belowTests lowerTests meanTests layoutTests numberTests shapedTests deliveryTests verdict.verdict marginOf liveMark allTo lastModel lastDelivery sameUppers plain
+uppers-held = (refl, (refl, (refl, (refl, (refl, (refl, (refl, (refl, (refl, (refl, (refl, tt)))))))))))
+
+means-held : AllReplied [] meansHeld
+unfolding first each wordAt sign sum sumTo leastTo fits overRow f meanSide mark alive share shareAt margin recordsOf field weight greatestTo statesOf symbolsOf ruleOf listTo rulesOf rowOf rowSum wholeRecords rangeAt unusedAt weightAt ascends recordTests rowTests modelTests modelVerdict byteOf valueOf meansFrom recordsIn longAs lowersOrMeans shapeOf uppersOf lowersOf meansOf eachEntry eachRow isDue inRange layout.recordTests deadTest upperTest belowTest lowerTest meanTest upperRecords lowerRecords meanRecords deadTests upperTests belowTests lowerTests meanTests layoutTests numberTests shapedTests deliveryTests verdict.verdict marginOf liveMark allTo lastModel lastDelivery sameUppers plain
+means-held = (refl, (refl, (refl, (refl, (refl, (refl, (refl, tt)))))))
+
+all-held : AllReplied [] allHeld
+unfolding first each wordAt sign sum sumTo leastTo fits overRow f meanSide mark alive share shareAt margin recordsOf field weight greatestTo statesOf symbolsOf ruleOf listTo rulesOf rowOf rowSum wholeRecords rangeAt unusedAt weightAt ascends recordTests rowTests modelTests modelVerdict byteOf valueOf meansFrom recordsIn longAs lowersOrMeans shapeOf uppersOf lowersOf meansOf eachEntry eachRow isDue inRange layout.recordTests deadTest upperTest belowTest lowerTest meanTest upperRecords lowerRecords meanRecords deadTests upperTests belowTests lowerTests meanTests layoutTests numberTests shapedTests deliveryTests verdict.verdict marginOf liveMark allTo lastModel lastDelivery sameUppers plain
+all-held = (refl, (refl, (refl, (refl, (refl, (refl, (refl, (refl, (refl, (refl, (refl, (refl, (refl, (refl, (refl, tt)))))))))))))))
+
+-- ---- so does a register
+
+as-due : (past es : List Event) → AllReplied past es → plainReplies past (map callOf es) ≡ map replyDue es
+unfolding plainReplies
+as-due past [] all = refl
+as-due past (e ∷ es) all = rw (all .0) (ap (λ rs. e .reply ∷ rs) (as-due (e ∷ past) es (all .1)))
+
+replied : (es : List Event) → AllReplied [] es → Replied es
+replied es all = replies-as-plain (map callOf es) ∙ as-due [] es all
+
+pub exchanges-replied : Replied nothingHeld × Replied modelHeld × Replied uppersHeld × Replied meansHeld × Replied allHeld
+exchanges-replied = (
+  replied nothingHeld nothing-held,
+  replied modelHeld model-held,
+  replied uppersHeld uppers-held,
+  replied meansHeld means-held,
+  replied allHeld all-held,
+)

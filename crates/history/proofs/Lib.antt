@@ -1,0 +1,7 @@
+-- The theorems of the mission for every sequence of calls.
+pub mod Refusals
+pub mod Pairs
+pub mod Plain
+pub mod Replies
+pub mod Mission
+pub mod Edges

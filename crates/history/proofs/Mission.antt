@@ -1,0 +1,171 @@
+-- Mission point 3 for what the questions answer after any list of calls: a number that is answered is one of files that are held and
+-- accepted, and is true of the runs of the held model.
+use Prim.Native.Nat.{ℕ, _*_, _^_, _≤_, _<_}
+use native.Mathlib.Omega.{arith}
+use mathlib.Core.Bool.{Bool, true, false, cond, _&&_}
+use mathlib.Core.List.{List}
+use mathlib.Core.Option.{Option, none, some}
+use mathlib.Core.Path.{_≡_, refl, sym, _∙_}
+use lib.Dec.{ltb}
+use borrow.Author.Tests.{lt-ltb}
+use Rattle.outcome.specs.declared.Outcome.the-variants.{Accepted}
+use Rattle.outcome.proofs.Exactly.{lt-exactly, both}
+use Rattle.ppda.specs.Bounds.{stepsOf}
+use Rattle.ppda.specs.Chances.{chance, mean}
+use Rattle.ppda.proofs.Marks.{alive-is-bit}
+use Rattle.model.specs.Records.{statesOf, symbolsOf}
+use Rattle.model.specs.Rules.{rulesOf}
+use Rattle.model.specs.Verdict.{modelVerdict}
+use Rattle.delivery.specs.declared.shape.Shape.{Shape}
+use Rattle.delivery.specs.declared.shape.Shaped.{Shaped}
+use Rattle.delivery.specs.declared.shape.Shaped.the-variants.{Of, Unknown}
+use Rattle.delivery.specs.Shapes.{hasLowers, hasMeans, shapeOf}
+use Rattle.delivery.specs.Numbers.{uppersOf, lowersOf, meansOf}
+use Rattle.equations.specs.Shown.{liveMark}
+use Rattle.equations.proofs.Shown.{live-marks-by-runs}
+use Rattle.certificate.specs.Verdict.{verdict}
+use Rattle.certificate.specs.Margin.{marginOf}
+use Rattle.certificate.proofs.Holds.{upper-of-files, lower-of-shape, lower-as-shown-of-shape, mean-of-files}
+use Rattle.history.specs.Calls.{Call, upper, lower, meanSteps, margin, live, Reply, value, refusal}
+use Rattle.history.specs.Plain.{lastModel, lastDelivery, ofModel, ofDelivery, ofBlock, atEntry, atRow, plain}
+use Rattle.history.specs.Run.{replyTo, history}
+use Rattle.history.specs.Mission.{Holds, UpperShown, LowerHeld, LowerShown, MeanShown, LiveShown}
+use Rattle.history.proofs.Pairs.{lowerReply, meanReply, Right, model-right}
+use Rattle.history.proofs.Plain.{right-pair, as-plain-pair}
+
+-- ---- what a number that is answered says of the pair
+
+no-number : {k n : ℕ} → refusal k ≡ value n → ⊥
+no-number e = let z : _≡_ {A = ℕ} 0 1 = cc in omega arith
+
+model-asked : (m : Option (List ℕ)) (h : List ℕ → Reply) {n : ℕ} → ofModel m h ≡ value n → (b : List ℕ) × (m ≡ some b) × (h b ≡ value n)
+model-asked none h e = absurd (no-number e)
+model-asked (some b) h e = (b, refl, e)
+
+delivery-asked : (y : Option (List ℕ)) (h : List ℕ → Reply) {n : ℕ} → ofDelivery y h ≡ value n
+    → (d : List ℕ) × (y ≡ some d) × (h d ≡ value n)
+delivery-asked none h e = absurd (no-number e)
+delivery-asked (some d) h e = (d, refl, e)
+
+-- A test that is passed, else the refusal k.
+test-passed : (t : Bool) (r : Reply) (k : ℕ) {n : ℕ} → cond t r (refusal k) ≡ value n → (t ≡ true) × (r ≡ value n)
+test-passed true r k e = (refl, e)
+test-passed false r k e = absurd (no-number e)
+
+block-asked : (has : Shape → Bool) (t : Shaped) (h : Shape → Reply) {n : ℕ} → ofBlock has t h ≡ value n
+    → (k : Shape) × (t ≡ Of k) × (has k ≡ true) × (h k ≡ value n)
+block-asked has (Of k) h e = let (stands, same) = test-passed (has k) (h k) 43 e in (k, refl, stands, same)
+block-asked has Unknown h e = absurd (no-number e)
+
+entry-asked : (s g p z q : ℕ) (r : Reply) {n : ℕ} → cond ((ltb p s && ltb z g) && ltb q s) r (refusal 44) ≡ value n
+    → (p < s) × (z < g) × (q < s) × (r ≡ value n)
+entry-asked s g p z q r e =
+    let (test, reply) = test-passed ((ltb p s && ltb z g) && ltb q s) r 44 e in
+    let ((hp, hz), hq) = both _ _ (both _ _ (lt-exactly p s) (lt-exactly z g)) (lt-exactly q s) .0 test in
+    (hp, hz, hq, reply)
+
+row-asked : (s g p z : ℕ) (r : Reply) {n : ℕ} → cond (ltb p s && ltb z g) r (refusal 44) ≡ value n → (p < s) × (z < g) × (r ≡ value n)
+row-asked s g p z r e =
+    let (test, reply) = test-passed (ltb p s && ltb z g) r 44 e in
+    let (hp, hz) = both _ _ (lt-exactly p s) (lt-exactly z g) .0 test in
+    (hp, hz, reply)
+
+-- The files that are held after the calls.
+record Files (cs : List Call) (b d : List ℕ) : Type 0 where
+  model : Holds cs b
+  delivery : lastDelivery (history cs) ≡ some d
+  accepted : verdict b d ≡ Accepted
+
+files-right : {m y : Option (List ℕ)} {b d : List ℕ} → Right m y → m ≡ some b → y ≡ some d → verdict b d ≡ Accepted
+files-right right model delivery = rw (model, delivery) at right
+
+files-asked : (cs : List Call) (h : List ℕ → List ℕ → Reply) {n : ℕ}
+    → ofModel (lastModel (history cs)) (λ b. ofDelivery (lastDelivery (history cs)) (h b)) ≡ value n
+    → (b : List ℕ) × (d : List ℕ) × Files cs b d × (h b d ≡ value n)
+files-asked cs h e =
+    let (b, model, inner) = model-asked (lastModel (history cs)) _ e in
+    let (d, delivery, reply) = delivery-asked (lastDelivery (history cs)) (h b) inner in
+    (b, d, record { model = model; delivery = delivery; accepted = files-right (right-pair cs) model delivery }, reply)
+
+-- ---- point 3, for the files b and d that are held
+
+module _ {cs : List Call} {b d : List ℕ} (files : Files cs b d) where
+  upper-of : (p z q u : ℕ) → atEntry b p z q (value (uppersOf (statesOf b) (symbolsOf b) d p z q)) ≡ value u
+      → (n : ℕ) → chance (rulesOf b) n p z q * 2 ^ 20 ≤ u * 65536 ^ n
+  upper-of p z q u e n =
+      let (hp, hz, hq, reply) = entry-asked (statesOf b) (symbolsOf b) p z q (value (uppersOf (statesOf b) (symbolsOf b) d p z q)) e in
+      let same : uppersOf (statesOf b) (symbolsOf b) d p z q ≡ u = cc in
+      rw same at (upper-of-files b d (files .accepted) n p z q hp hz hq)
+
+  upper-replied : (p z q : ℕ) → p < statesOf b → z < symbolsOf b → q < statesOf b
+      → replyTo cs (upper p z q) ≡ value (uppersOf (statesOf b) (symbolsOf b) d p z q)
+  unfolding plain
+  upper-replied p z q hp hz hq =
+      as-plain-pair cs (upper p z q)
+      ∙ rw (files .model, files .delivery, lt-ltb p (statesOf b) hp, lt-ltb z (symbolsOf b) hz, lt-ltb q (statesOf b) hq)
+
+  margin-replied : {h : Shape} → shapeOf (statesOf b) (symbolsOf b) d ≡ Of h → hasLowers h ≡ true → replyTo cs margin ≡ value (marginOf b d)
+  unfolding plain
+  margin-replied shape has = as-plain-pair cs margin ∙ rw (files .model, files .delivery, shape, has)
+
+  lower-of : (p z q l : ℕ) → atEntry b p z q (lowerReply b d p z q) ≡ value l → LowerHeld cs p z q l
+  unfolding stepsOf
+  lower-of p z q l e =
+      let (hp, hz, hq, inner) = entry-asked (statesOf b) (symbolsOf b) p z q (lowerReply b d p z q) e in
+      let (h, shape, has, reply) = block-asked hasLowers (shapeOf (statesOf b) (symbolsOf b) d) _ inner in
+      let same : lowersOf (statesOf b) (symbolsOf b) d p z q ≡ l = cc in
+      record {
+        model = b;
+        upper-shown = uppersOf (statesOf b) (symbolsOf b) d p z q;
+        margin-shown = marginOf b d;
+        held = files .model;
+        upper-asked = upper-replied p z q hp hz hq;
+        margin-asked = margin-replied shape has;
+        holds = λ k. rw same at (lower-as-shown-of-shape b d h (files .accepted) shape has k p z q hp hz hq);
+        holds-at-zero = λ k. rw same at (lower-of-shape b d h (files .accepted) shape has k p z q hp hz hq);
+      }
+
+  mean-of : (p z r : ℕ) → atRow b p z (meanReply b d p z) ≡ value r → (n : ℕ) → mean (rulesOf b) n p z * 2 ^ 8 ≤ r * 65536 ^ n
+  mean-of p z r e n =
+      let (hp, hz, inner) = row-asked (statesOf b) (symbolsOf b) p z (meanReply b d p z) e in
+      let (h, shape, has, reply) = block-asked hasMeans (shapeOf (statesOf b) (symbolsOf b) d) _ inner in
+      let same : meansOf (statesOf b) (symbolsOf b) h d p z ≡ r = cc in
+      rw same at (mean-of-files b d h (files .accepted) shape has n p z hp hz)
+
+-- ---- point 3, after any list of calls
+
+pub upper-shown : (cs : List Call) → UpperShown cs
+unfolding plain
+upper-shown cs p z q u e =
+    let (b, d, files, reply) = files-asked cs (λ b d. atEntry b p z q (value (uppersOf (statesOf b) (symbolsOf b) d p z q)))
+    (sym (as-plain-pair cs (upper p z q)) ∙ e) in
+    (b, files .model, upper-of files p z q u reply)
+
+pub lower-shown : (cs : List Call) → LowerShown cs
+unfolding plain
+lower-shown cs p z q l e =
+    let (b, d, files, reply) = files-asked cs (λ b d. atEntry b p z q (lowerReply b d p z q)) (sym (as-plain-pair cs (lower p z q)) ∙ e) in
+    lower-of files p z q l reply
+
+pub mean-shown : (cs : List Call) → MeanShown cs
+unfolding plain
+mean-shown cs p z r e =
+    let (b, d, files, reply) = files-asked cs (λ b d. atRow b p z (meanReply b d p z)) (sym (as-plain-pair cs (meanSteps p z)) ∙ e) in
+    (b, files .model, mean-of files p z r reply)
+
+model-held-right : {m : Option (List ℕ)} {b : List ℕ} (y : Option (List ℕ)) → Right m y → m ≡ some b → modelVerdict b ≡ Accepted
+model-held-right {b = b} y right held = model-right b y (rw held at right)
+
+live-bit : (b : List ℕ) (p z q : ℕ) → modelVerdict b ≡ Accepted → liveMark b p z q ≤ 1
+unfolding liveMark
+live-bit b p z q is = rw is (alive-is-bit (rulesOf b) (statesOf b) (symbolsOf b) p z q)
+
+pub live-shown : (cs : List Call) → LiveShown cs
+unfolding plain
+live-shown cs p z q a e =
+    let (b, held, inner) = model-asked (lastModel (history cs)) (λ b. atEntry b p z q (value (liveMark b p z q)))
+    (sym (as-plain-pair cs (live p z q)) ∙ e) in
+    let (hp, hz, hq, reply) = entry-asked (statesOf b) (symbolsOf b) p z q (value (liveMark b p z q)) inner in
+    let is = model-held-right (lastDelivery (history cs)) (right-pair cs) held in
+    let same : liveMark b p z q ≡ a = cc in
+    (b, held, rw same at (live-marks-by-runs b is p z q hp hz hq), rw same at (live-bit b p z q is))

@@ -1,0 +1,364 @@
+-- A register that holds a pair of accepted files replies to each call as the plain pair does, and holds the next pair after it.
+use Prim.Native.Nat.{ℕ, _<_}
+use native.Mathlib.Omega.{arith}
+use mathlib.Core.Bool.{Bool, true, false, cond, _&&_}
+use mathlib.Core.List.{List}
+use mathlib.Core.Logic.{_↔_, Iff·trans}
+use mathlib.Core.Option.{Option, none, some}
+use mathlib.Core.Path.{_≡_, refl, sym, ap, _∙_}
+use lib.Dec.{ltb}
+use lib.ListN.{length, getD}
+use Rattle.outcome.specs.declared.Outcome.{Outcome}
+use Rattle.outcome.specs.declared.Outcome.the-variants.{Accepted, Refused}
+use Rattle.outcome.proofs.Exactly.{lt-exactly, le-exactly, eq-exactly, both}
+use Rattle.ppda.specs.Equations.{Vector, RowVector, entries, rows}
+use Rattle.model.specs.Records.{statesOf, symbolsOf}
+use Rattle.model.specs.Verdict.{modelVerdict}
+use Rattle.model.proofs.Accepted.{model-accepted}
+use Rattle.delivery.specs.Records.{byteOf, valueOf}
+use Rattle.delivery.specs.declared.shape.Shaped.the-variants.{Of}
+use Rattle.delivery.specs.Shapes.{entriesIn, hasLowers, hasMeans, shapeOf}
+use Rattle.delivery.specs.Numbers.{uppersOf, lowersOf, meansOf}
+use Rattle.equations.specs.Held.{Sized, Same}
+use Rattle.equations.specs.Shown.{liveMark}
+use Rattle.equations.proofs.Ranges.{few-rows, few-entries}
+use Rattle.equations.proofs.Shown.{sized-of}
+use Rattle.equations.proofs.Vectors.{SameRows}
+use Rattle.certificate.specs.Accepted.{Filed}
+use Rattle.certificate.specs.Margin.{marginOf}
+use Rattle.certificate.specs.Verdict.{verdict}
+use Rattle.certificate.proofs.Accepted.{delivery-accepted}
+use Rattle.certificate.proofs.Rest.{at-numbers}
+use Rattle.register.specs.declared.answer.Mark.the-variants.{Known, New}
+use Rattle.register.specs.Held.{listed, listedRows, noModel, modelHeld, numbersHeld, holdsModel}
+use Rattle.register.specs.Filing as Filing
+use Rattle.register.specs.Filing.{fileOf, withModel, modelBy, deliveryBy, received, shapeFor, sameTo, markBy}
+use Rattle.register.specs.Questions.{answered, hasRow, hasEntry, rowIn, entryIn, upperIn, lowerIn, meanIn, marginIn, liveIn}
+use Rattle.register.proofs.Lists.{listed-at, rows-at, filled-back, all-exactly, same-found}
+use Rattle.history.specs.Calls.{Call, clear, fileModel, fileDelivery, upper, lower, meanSteps, margin, live, Reply, accepted, known, new, value, refusal, taken}
+use Rattle.history.specs.Plain.{Pair, ofModel, ofDelivery, ifNone, atRow, atEntry, ofBlock, byVerdict, sameRecord, sameUppers, markOf, modelAfter, deliveryAfter, plain}
+use Rattle.history.specs.Run.{modelReply, markReply, deliveryReply, answerReply, after, replyOf, holding, registerOf}
+
+-- The reply to a question on a block that the held delivery may have, for the model b and the delivery d.
+abbrev pub lowerReply : List ℕ → List ℕ → ℕ → ℕ → ℕ → Reply
+lowerReply b d p z q = ofBlock hasLowers (shapeOf (statesOf b) (symbolsOf b) d) (λ h. value (lowersOf (statesOf b) (symbolsOf b) d p z q))
+
+abbrev pub meanReply : List ℕ → List ℕ → ℕ → ℕ → Reply
+meanReply b d p z = ofBlock hasMeans (shapeOf (statesOf b) (symbolsOf b) d) (λ h. value (meansOf (statesOf b) (symbolsOf b) h d p z))
+
+-- The files of a pair are accepted: the model by its own verdict, the delivery with the model. None is held without a model.
+abbrev pub Right : Option (List ℕ) → Option (List ℕ) → Type 0
+Right none y = y ≡ none
+Right (some b) none = modelVerdict b ≡ Accepted
+Right (some b) (some d) = verdict b d ≡ Accepted
+
+-- ---- a number asked of a list in file order: 44, then 43, then the number
+
+module _ (s g : ℕ) (l : List ℕ) (block : Bool) where
+  entry-reply : (v : Vector) → (block ≡ true → Same s g (entries s g l) v) → (p z q : ℕ)
+      → answerReply (answered true true (hasEntry s g p z q) block (entryIn s g l p z q))
+      ≡ cond ((ltb p s && ltb z g) && ltb q s) (cond block (value (v p z q)) (refusal 43)) (refusal 44)
+  unfolding hasEntry hasRow entryIn
+  entry-reply v same p z q = go ((ltb p s && ltb z g) && ltb q s) refl block refl
+    where
+      go : (t : Bool) → ((ltb p s && ltb z g) && ltb q s) ≡ t → (k : Bool) → block ≡ k
+          → answerReply (answered true true t k (cond t (entries s g l p z q) 0)) ≡ cond t (cond k (value (v p z q)) (refusal 43)) (refusal 44)
+      go true e true has =
+          let ((hp, hz), hq) = both _ _ (both _ _ (lt-exactly p s) (lt-exactly z g)) (lt-exactly q s) .0 e in
+          ap value (same has p z q hp hz hq)
+      go true e false has = refl
+      go false e k has = refl
+
+  row-reply : (v : RowVector) → (block ≡ true → SameRows s g (rows g l) v) → (p z : ℕ)
+      → answerReply (answered true true (hasRow s g p z) block (rowIn s g l p z))
+      ≡ cond (ltb p s && ltb z g) (cond block (value (v p z)) (refusal 43)) (refusal 44)
+  unfolding hasRow rowIn
+  row-reply v same p z = go (ltb p s && ltb z g) refl block refl
+    where
+      go : (t : Bool) → (ltb p s && ltb z g) ≡ t → (k : Bool) → block ≡ k
+          → answerReply (answered true true t k (cond t (rows g l p z) 0)) ≡ cond t (cond k (value (v p z)) (refusal 43)) (refusal 44)
+      go true e true has =
+          let (hp, hz) = both _ _ (lt-exactly p s) (lt-exactly z g) .0 e in
+          ap value (same has p z hp hz)
+      go true e false has = refl
+      go false e k has = refl
+
+-- ---- a held model
+
+module _ (b : List ℕ) (is : modelVerdict b ≡ Accepted) where
+  size : Sized b (statesOf b) (symbolsOf b)
+  size = sized-of is refl refl
+
+  held-length : holdsModel (length b) ≡ true
+  unfolding holdsModel
+  held-length =
+      let records = size .file .records in
+      both _ _ (lt-exactly 0 (length b)) (le-exactly (length b) 10240) .1 (omega (arith, records .some, records .most, records .whole))
+
+  listed-same : (v : Vector) → Same (statesOf b) (symbolsOf b) (entries (statesOf b) (symbolsOf b) (listed (statesOf b) (symbolsOf b) v)) v
+  listed-same v p z q hp hz hq = listed-at (statesOf b) (symbolsOf b) v p z q hp hz hq (few-entries size)
+
+  rows-same : (v : RowVector) → SameRows (statesOf b) (symbolsOf b) (rows (symbolsOf b) (listedRows (statesOf b) (symbolsOf b) v)) v
+  rows-same v p z hp hz = rows-at (statesOf b) (symbolsOf b) v p z hp hz (omega (arith, few-rows size))
+
+-- The model b of a right pair with the delivery y, if any, is accepted, and it is what the register holds.
+pub model-right : (b : List ℕ) (y : Option (List ℕ)) → Right (some b) y → modelVerdict b ≡ Accepted
+model-right b none right = right
+model-right b (some d) right = model-accepted b .1 (delivery-accepted b d .0 right .model)
+
+model-of-pair : (b : List ℕ) (y : Option (List ℕ)) → holding (some b) y .model ≡ modelHeld b
+unfolding withModel
+model-of-pair b none = refl
+model-of-pair b (some d) = refl
+
+module _ (b : List ℕ) (y : Option (List ℕ)) (right : Right (some b) y) where
+  model-held : holdsModel (holding (some b) y .model .length) ≡ true
+  unfolding modelHeld
+  model-held = rw (model-of-pair b y) (held-length b (model-right b y right))
+
+  file-held : fileOf (holding (some b) y) ≡ b
+  unfolding fileOf modelHeld
+  file-held =
+      let records = size b (model-right b y right) .file .records in
+      rw (model-of-pair b y) (filled-back 10240 b (omega (arith, records .most, records .whole)))
+
+  delivery-by-verdict : (d : List ℕ) → Filing.fileDelivery (holding (some b) y) d ≡ deliveryBy (verdict b d) (holding (some b) y) b d
+  unfolding Filing.fileDelivery
+  delivery-by-verdict d = rw (model-held, file-held)
+
+  live-reply : (p z q : ℕ) → answerReply (liveIn (holding (some b) y) p z q) ≡ atEntry b p z q (value (liveMark b p z q))
+  unfolding liveIn modelHeld
+  live-reply p z q =
+      let is = model-right b y right in
+      rw (model-of-pair b y, held-length b is)
+      (entry-reply (statesOf b) (symbolsOf b) _ true (liveMark b) (λ has. listed-same b is (liveMark b)) p z q)
+
+-- ---- a held delivery
+
+module _ (b d : List ℕ) (is : verdict b d ≡ Accepted) where
+  filed : Filed b d
+  filed = delivery-accepted b d .0 is
+
+  model-is : modelVerdict b ≡ Accepted
+  model-is = model-right b (some d) is
+
+  shaped : shapeOf (statesOf b) (symbolsOf b) d ≡ Of (filed .shaped)
+  shaped = filed .delivery .shape
+
+  upper-reply : (p z q : ℕ) → answerReply (upperIn (holding (some b) (some d)) p z q)
+      ≡ atEntry b p z q (value (uppersOf (statesOf b) (symbolsOf b) d p z q))
+  unfolding upperIn withModel modelHeld numbersHeld
+  upper-reply p z q =
+      rw (held-length b model-is)
+      (entry-reply (statesOf b) (symbolsOf b) _ true (uppersOf (statesOf b) (symbolsOf b) d) (λ has. listed-same b model-is _) p z q)
+
+  lower-reply : (p z q : ℕ) → answerReply (lowerIn (holding (some b) (some d)) p z q) ≡ atEntry b p z q (lowerReply b d p z q)
+  unfolding lowerIn withModel modelHeld numbersHeld shapeFor
+  lower-reply p z q =
+      rw (shaped, held-length b model-is)
+      (entry-reply (statesOf b) (symbolsOf b) _ (hasLowers (filed .shaped)) (lowersOf (statesOf b) (symbolsOf b) d)
+      (λ has. rw has (listed-same b model-is _)) p z q)
+
+  mean-reply : (p z : ℕ) → answerReply (meanIn (holding (some b) (some d)) p z) ≡ atRow b p z (meanReply b d p z)
+  unfolding meanIn withModel modelHeld numbersHeld shapeFor
+  mean-reply p z =
+      rw (shaped, held-length b model-is)
+      (row-reply (statesOf b) (symbolsOf b) _ (hasMeans (filed .shaped)) (meansOf (statesOf b) (symbolsOf b) (filed .shaped) d)
+      (λ has. rw has (rows-same b model-is _)) p z)
+
+  margin-reply : answerReply (marginIn (holding (some b) (some d)))
+      ≡ ofBlock hasLowers (shapeOf (statesOf b) (symbolsOf b) d) (λ h. value (marginOf b d))
+  unfolding marginIn withModel modelHeld numbersHeld shapeFor
+  margin-reply = rw (shaped, held-length b model-is) (go (hasLowers (filed .shaped)))
+    where
+      go : (t : Bool) → answerReply (answered true true true t (cond t (marginOf b d) 0)) ≡ cond t (value (marginOf b d)) (refusal 43)
+      go true = refl
+      go false = refl
+
+  -- The uppers in the register are the values of the file's first records.
+  uppers-held : (i : ℕ) → i < entriesIn (statesOf b) (symbolsOf b)
+      → getD (listed (statesOf b) (symbolsOf b) (uppersOf (statesOf b) (symbolsOf b) d)) i 0 ≡ valueOf d i
+  unfolding uppersOf
+  uppers-held = at-numbers _ (listed-same b model-is (uppersOf (statesOf b) (symbolsOf b) d))
+
+-- ---- a delivery filed
+
+-- The same first V records are the same uppers: kind, p, Z and q are those due there in both files.
+module _ (b e d : List ℕ) (former : verdict b e ≡ Accepted) (is : verdict b d ≡ Accepted) where
+  bytes-same : (i : ℕ) → i < entriesIn (statesOf b) (symbolsOf b)
+      → (byteOf e i 0 ≡ byteOf d i 0)
+      × ((byteOf e i 1 ≡ byteOf d i 1) × ((byteOf e i 2 ≡ byteOf d i 2) × (byteOf e i 3 ≡ byteOf d i 3)))
+  bytes-same =
+      at-numbers _ (λ p z q hp hz hq.
+      let a = filed b e former .delivery .uppers .due p z q hp hz hq in
+      let c = filed b d is .delivery .uppers .due p z q hp hz hq in
+      (a .kind ∙ sym (c .kind), (a .state ∙ sym (c .state), (a .symbol ∙ sym (c .symbol), a .exit ∙ sym (c .exit)))))
+
+  record-same : (i : ℕ) → (sameRecord e d i ≡ true)
+      ↔ ((byteOf e i 0 ≡ byteOf d i 0)
+      × ((byteOf e i 1 ≡ byteOf d i 1)
+      × ((byteOf e i 2 ≡ byteOf d i 2) × ((byteOf e i 3 ≡ byteOf d i 3) × (valueOf e i ≡ valueOf d i)))))
+  record-same i =
+      both _ _ (eq-exactly _ _) (both _ _ (eq-exactly _ _) (both _ _ (eq-exactly _ _) (both _ _ (eq-exactly _ _) (eq-exactly _ _))))
+
+  uppers-same : sameUppers b e d
+      ≡ sameTo (entriesIn (statesOf b) (symbolsOf b))
+      (listed (statesOf b) (symbolsOf b) (uppersOf (statesOf b) (symbolsOf b) e))
+      (listed (statesOf b) (symbolsOf b) (uppersOf (statesOf b) (symbolsOf b) d))
+  unfolding sameUppers
+  uppers-same =
+      same-found _ _ _ (Iff·trans (all-exactly (sameRecord e d) (entriesIn (statesOf b) (symbolsOf b))) (
+        λ all i lt. uppers-held b e former i lt ∙ record-same i .0 (all i lt) .1 .1 .1 .1 ∙ sym (uppers-held b d is i lt),
+        λ all i lt.
+            let (kind, (state, (symbol, exit))) = bytes-same i lt in
+            record-same i .1 (kind, (state, (symbol, (exit, sym (uppers-held b e former i lt) ∙ all i lt ∙ uppers-held b d is i lt)))),
+      ))
+
+mark-reply : (b d : List ℕ) (y : Option (List ℕ)) → Right (some b) y → verdict b d ≡ Accepted
+    → markReply (received (holding (some b) y) b (shapeFor b d) d .mark) ≡ markOf b y d
+unfolding withModel markBy numbersHeld
+mark-reply b d none right is = refl
+mark-reply b d (some e) right is = rw (← uppers-same b e d right is) (go (sameUppers b e d))
+  where
+    go : (t : Bool) → markReply (cond t Known New) ≡ cond t known new
+    go true = refl
+    go false = refl
+
+delivery-held : (b d : List ℕ) (y : Option (List ℕ)) → received (holding (some b) y) b (shapeFor b d) d .register ≡ holding (some b) (some d)
+delivery-held b d none = refl
+delivery-held b d (some e) = refl
+
+pub mark-taken : (b d : List ℕ) (y : Option (List ℕ)) → taken (markOf b y d) ≡ true
+mark-taken b d none = refl
+mark-taken b d (some e) = go (sameUppers b e d)
+  where
+    go : (t : Bool) → taken (cond t known new) ≡ true
+    go true = refl
+    go false = refl
+
+-- ---- the replies of a register that holds the pair of m and y
+
+cleared-holds : holdsModel (Filing.cleared .model .length) ≡ false
+unfolding Filing.cleared noModel holdsModel
+cleared-holds = refl
+
+module _ (y : Option (List ℕ)) where
+  model-filed : (m : Option (List ℕ)) → Right m y → (b : List ℕ)
+      → modelReply (Filing.fileModel (holding m y) b .outcome) ≡ ifNone m (byVerdict (modelVerdict b) accepted)
+  unfolding Filing.fileModel
+  model-filed none right b = rw cleared-holds (go (modelVerdict b))
+    where
+      go : (o : Outcome) → modelReply (modelBy o Filing.cleared b .outcome) ≡ byVerdict o accepted
+      go Accepted = refl
+      go (Refused x i k) = refl
+  model-filed (some a) right b = rw (model-held a y right)
+
+  delivery-filed : (m : Option (List ℕ)) → Right m y → (d : List ℕ)
+      → deliveryReply (Filing.fileDelivery (holding m y) d .outcome) (Filing.fileDelivery (holding m y) d .mark)
+      ≡ ofModel m (λ b. byVerdict (verdict b d) (markOf b y d))
+  unfolding Filing.fileDelivery
+  delivery-filed none right d = rw cleared-holds
+  delivery-filed (some b) right d = rw (delivery-by-verdict b y right d) (go (verdict b d) refl)
+    where
+      go : (o : Outcome) → verdict b d ≡ o
+          → deliveryReply (deliveryBy o (holding (some b) y) b d .outcome) (deliveryBy o (holding (some b) y) b d .mark)
+          ≡ byVerdict o (markOf b y d)
+      go Accepted e = mark-reply b d y right e
+      go (Refused x i k) e = refl
+
+upper-of-pair : (m y : Option (List ℕ)) → Right m y → (p z q : ℕ) → answerReply (upperIn (holding m y) p z q)
+    ≡ ofModel m (λ b. ofDelivery y (λ d. atEntry b p z q (value (uppersOf (statesOf b) (symbolsOf b) d p z q))))
+unfolding upperIn withModel modelHeld
+upper-of-pair none y right p z q = rw cleared-holds
+upper-of-pair (some b) none right p z q = rw (held-length b right)
+upper-of-pair (some b) (some d) right p z q = upper-reply b d right p z q
+
+lower-of-pair : (m y : Option (List ℕ)) → Right m y → (p z q : ℕ) → answerReply (lowerIn (holding m y) p z q)
+    ≡ ofModel m (λ b. ofDelivery y (λ d. atEntry b p z q (lowerReply b d p z q)))
+unfolding lowerIn withModel modelHeld
+lower-of-pair none y right p z q = rw cleared-holds
+lower-of-pair (some b) none right p z q = rw (held-length b right)
+lower-of-pair (some b) (some d) right p z q = lower-reply b d right p z q
+
+mean-of-pair : (m y : Option (List ℕ)) → Right m y → (p z : ℕ) → answerReply (meanIn (holding m y) p z)
+    ≡ ofModel m (λ b. ofDelivery y (λ d. atRow b p z (meanReply b d p z)))
+unfolding meanIn withModel modelHeld
+mean-of-pair none y right p z = rw cleared-holds
+mean-of-pair (some b) none right p z = rw (held-length b right)
+mean-of-pair (some b) (some d) right p z = mean-reply b d right p z
+
+margin-of-pair : (m y : Option (List ℕ)) → Right m y → answerReply (marginIn (holding m y))
+    ≡ ofModel m (λ b. ofDelivery y (λ d. ofBlock hasLowers (shapeOf (statesOf b) (symbolsOf b) d) (λ h. value (marginOf b d))))
+unfolding marginIn withModel modelHeld
+margin-of-pair none y right = rw cleared-holds
+margin-of-pair (some b) none right = rw (held-length b right)
+margin-of-pair (some b) (some d) right = margin-reply b d right
+
+live-of-pair : (m y : Option (List ℕ)) → Right m y → (p z q : ℕ) → answerReply (liveIn (holding m y) p z q)
+    ≡ ofModel m (λ b. atEntry b p z q (value (liveMark b p z q)))
+unfolding liveIn
+live-of-pair none y right p z q = rw cleared-holds
+live-of-pair (some b) y right p z q = live-reply b y right p z q
+
+pub reply-of-pair : (x : Pair) → Right (x .model) (x .delivery) → (c : Call) → replyOf (registerOf x) c ≡ plain x c
+unfolding replyOf plain registerOf
+reply-of-pair x right clear = refl
+reply-of-pair x right (fileModel b) = model-filed (x .delivery) (x .model) right b
+reply-of-pair x right (fileDelivery d) = delivery-filed (x .delivery) (x .model) right d
+reply-of-pair x right (upper p z q) = upper-of-pair (x .model) (x .delivery) right p z q
+reply-of-pair x right (lower p z q) = lower-of-pair (x .model) (x .delivery) right p z q
+reply-of-pair x right (meanSteps p z) = mean-of-pair (x .model) (x .delivery) right p z
+reply-of-pair x right margin = margin-of-pair (x .model) (x .delivery) right
+reply-of-pair x right (live p z q) = live-of-pair (x .model) (x .delivery) right p z q
+
+-- ---- the pair after a call
+
+-- The pair after a call, and that a register which held the pair holds it then, with accepted files.
+abbrev pub pairAfter : Pair → Call → Pair
+pairAfter x c =
+    record {
+      model = modelAfter c (taken (plain x c)) (x .model);
+      delivery = deliveryAfter c (taken (plain x c)) (x .delivery);
+    }
+
+pub record Next (x : Pair) (c : Call) : Type 0 where
+  pub held : after (registerOf x) c ≡ registerOf (pairAfter x c)
+  pub right : Right (pairAfter x c .model) (pairAfter x c .delivery)
+
+module _ (y : Option (List ℕ)) where
+  model-after : (m : Option (List ℕ)) → Right m y → (b : List ℕ) →
+      let t = taken (ifNone m (byVerdict (modelVerdict b) accepted)) in
+      (Filing.fileModel (holding m y) b .register ≡ holding (cond t (some b) m) (cond t none y)) × Right (cond t (some b) m) (cond t none y)
+  unfolding Filing.fileModel
+  model-after none right b = rw cleared-holds (go (modelVerdict b) refl)
+    where
+      go : (o : Outcome) → modelVerdict b ≡ o →
+          let t = taken (byVerdict o accepted) in
+          (modelBy o Filing.cleared b .register ≡ holding (cond t (some b) none) (cond t none y)) × Right (cond t (some b) none) (cond t none y)
+      go Accepted e = (refl, e)
+      go (Refused x i k) e = (refl, right)
+  model-after (some a) right b = (rw (model-held a y right), right)
+
+  delivery-after : (m : Option (List ℕ)) → Right m y → (d : List ℕ) →
+      let t = taken (ofModel m (λ b. byVerdict (verdict b d) (markOf b y d))) in
+      (Filing.fileDelivery (holding m y) d .register ≡ holding m (cond t (some d) y)) × Right m (cond t (some d) y)
+  unfolding Filing.fileDelivery
+  delivery-after none right d = (rw cleared-holds, right)
+  delivery-after (some b) right d = rw (delivery-by-verdict b y right d) (go (verdict b d) refl)
+    where
+      go : (o : Outcome) → verdict b d ≡ o →
+          let t = taken (byVerdict o (markOf b y d)) in
+          (deliveryBy o (holding (some b) y) b d .register ≡ holding (some b) (cond t (some d) y)) × Right (some b) (cond t (some d) y)
+      go Accepted e = rw (mark-taken b d y) (delivery-held b d y, e)
+      go (Refused x i k) e = (refl, right)
+
+pub next-of-pair : (x : Pair) → Right (x .model) (x .delivery) → (c : Call) → Next x c
+unfolding after plain registerOf
+next-of-pair x right clear = record { held = refl; right = refl }
+next-of-pair x right (fileModel b) = let (held, again) = model-after (x .delivery) (x .model) right b in record { held = held; right = again }
+next-of-pair x right (fileDelivery d) = let (held, again) = delivery-after (x .delivery) (x .model) right d in record { held = held; right = again }
+next-of-pair x right (upper p z q) = record { held = refl; right = right }
+next-of-pair x right (lower p z q) = record { held = refl; right = right }
+next-of-pair x right (meanSteps p z) = record { held = refl; right = right }
+next-of-pair x right margin = record { held = refl; right = right }
+next-of-pair x right (live p z q) = record { held = refl; right = right }

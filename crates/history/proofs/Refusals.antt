@@ -1,0 +1,50 @@
+-- A refused call changes nothing, whatever the register holds.
+use Prim.Native.Nat.{ℕ}
+use native.Mathlib.Omega.{arith}
+use mathlib.Core.Bool.{cond}
+use mathlib.Core.List.{List}
+use mathlib.Core.Path.{_≡_, refl}
+use lib.IntN.{ℤ, pos}
+use Rattle.outcome.specs.declared.Reason.the-variants.{NoModel, ModelHeld}
+use Rattle.outcome.specs.declared.Outcome.{Outcome}
+use Rattle.outcome.specs.declared.Outcome.the-variants.{Accepted, Refused}
+use Rattle.model.specs.Verdict.{modelVerdict}
+use Rattle.certificate.specs.Verdict.{verdict}
+use Rattle.register.specs.declared.Register.{Register}
+use Rattle.register.specs.declared.answer.Mark.{Mark}
+use Rattle.register.specs.declared.answer.Mark.the-variants.{Known, New, Absent}
+use Rattle.register.specs.Filing as Filing
+use Rattle.register.specs.Filing.{fileOf, modelBy, deliveryBy}
+use Rattle.register.specs.Held.{holdsModel}
+use Rattle.history.specs.Calls.{Call, clear, fileModel, fileDelivery, upper, lower, meanSteps, margin, live, refused}
+use Rattle.history.specs.Run.{modelReply, markReply, deliveryReply, after, replyOf}
+use Rattle.history.specs.Mission.{RefusedKeeps}
+
+-- A mark is no refusal.
+mark-not-refused : (m : Mark) {n i : ℕ} {k : ℤ} → markReply m ≡ refused n i k → ⊥
+mark-not-refused Known e = let z : _≡_ {A = ℕ} 0 1 = cc in omega arith
+mark-not-refused New e = let z : _≡_ {A = ℕ} 0 1 = cc in omega arith
+mark-not-refused Absent e = let z : _≡_ {A = ℕ} 0 1 = cc in omega arith
+
+model-keeps : (o : Outcome) (r : Register) (b : List ℕ) {n i : ℕ} {k : ℤ} → modelReply (modelBy o r b .outcome) ≡ refused n i k
+    → modelBy o r b .register ≡ r
+model-keeps Accepted r b e = let z : _≡_ {A = ℕ} 0 1 = cc in absurd (omega arith)
+model-keeps (Refused x j l) r b e = refl
+
+delivery-keeps : (o : Outcome) (r : Register) (b d : List ℕ) {n i : ℕ} {k : ℤ}
+    → deliveryReply (deliveryBy o r b d .outcome) (deliveryBy o r b d .mark) ≡ refused n i k → deliveryBy o r b d .register ≡ r
+delivery-keeps Accepted r b d e = absurd (mark-not-refused (deliveryBy Accepted r b d .mark) e)
+delivery-keeps (Refused x j l) r b d e = refl
+
+pub refused-keeps : (r : Register) (c : Call) → RefusedKeeps r c
+unfolding after replyOf Filing.fileModel Filing.fileDelivery
+refused-keeps r clear n i k e = let z : _≡_ {A = ℕ} 0 1 = cc in absurd (omega arith)
+refused-keeps r (fileModel b) n i k e =
+    model-keeps (cond (holdsModel (r .model .length)) (Refused ModelHeld 0 (pos 0)) (modelVerdict b)) r b e
+refused-keeps r (fileDelivery d) n i k e =
+    delivery-keeps (cond (holdsModel (r .model .length)) (verdict (fileOf r) d) (Refused NoModel 0 (pos 0))) r (fileOf r) d e
+refused-keeps r (upper p z q) n i k e = refl
+refused-keeps r (lower p z q) n i k e = refl
+refused-keeps r (meanSteps p z) n i k e = refl
+refused-keeps r margin n i k e = refl
+refused-keeps r (live p z q) n i k e = refl

@@ -1,0 +1,38 @@
+-- The calls on a register and what they are replied (document 01, "Filing and questions").
+use Prim.Native.Nat.{ℕ}
+use mathlib.Core.Bool.{Bool, true, false}
+use mathlib.Core.List.{List}
+use lib.IntN.{ℤ, pos}
+
+-- A call: clearing; filing a file's bytes as a model or as a delivery; a question on an entry (p, z, q), a row (p, z) or the whole.
+pub data Call : Type 0 where
+  clear : Call
+  fileModel : (b : List ℕ) → Call
+  fileDelivery : (d : List ℕ) → Call
+  upper : (p z q : ℕ) → Call
+  lower : (p z q : ℕ) → Call
+  meanSteps : (p z : ℕ) → Call
+  margin : Call
+  live : (p z q : ℕ) → Call
+
+-- A reply, by document 01's numbers: cleared; a model accepted; a delivery accepted and marked; the number asked for; a refusal.
+pub data Reply : Type 0 where
+  cleared : Reply
+  accepted : Reply
+  known : Reply
+  new : Reply
+  value : (n : ℕ) → Reply
+  refused : (number place : ℕ) (shortfall : ℤ) → Reply
+
+-- A refusal from 40 up: its place is 0.
+abbrev pub refusal : ℕ → Reply
+refusal n = refused n 0 (pos 0)
+
+-- Whether a filing was accepted.
+abbrev pub taken : Reply → Bool
+taken cleared = false
+taken accepted = true
+taken known = true
+taken new = true
+taken (value n) = false
+taken (refused n i k) = false

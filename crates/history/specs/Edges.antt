@@ -1,0 +1,117 @@
+-- Calls on a register in the order of time, each with the reply that is due, by document 01's numbers: the reasons 40 to 44 and their order, the
+-- marks, refusals that change nothing, and clearing. The files are those of the edges of crate certificate.
+use Prim.Native.Nat.{ℕ}
+use mathlib.Core.List.{List, [], _∷_, _++_, map}
+use mathlib.Core.Path.{_≡_}
+use lib.IntN.{negsuc}
+use Rattle.model.specs.W.{wFile}
+use Rattle.certificate.specs.Edges.{line, oneRule, wDelivery}
+use Rattle.register.specs.Filing as Filing
+use Rattle.history.specs.Calls.{Call, clear, fileModel, fileDelivery, upper, lower, meanSteps, margin, live, Reply, cleared, accepted, known, new, value, refused, refusal}
+use Rattle.history.specs.Plain.{Event, pairOf, plain}
+use Rattle.history.specs.Run.{replies}
+
+abbrev pub due : Call → Reply → Event
+due c r = record { call = c; reply = r }
+
+abbrev pub callOf : Event → Call
+callOf e = e .call
+
+abbrev pub replyDue : Event → Reply
+replyDue e = e .reply
+
+-- Each reply is the one due, after the exchanges before it.
+abbrev pub AllReplied : List Event → List Event → Type 0
+AllReplied past [] = Unit {0}
+AllReplied past (e ∷ es) = (plain (pairOf past) (e .call) ≡ e .reply) × AllReplied (e ∷ past) es
+
+-- An empty register replies to the calls as is due.
+abbrev pub Replied : List Event → Type 0
+Replied es = replies Filing.cleared (map callOf es) ≡ map replyDue es
+
+-- Deliveries for W: the uppers alone, and with mean steps.
+abbrev pub wUppers : List ℕ
+wUppers = line 85 0 0 0 655360 ++ (line 85 0 0 1 524288 ++ (line 85 1 0 0 0 ++ line 85 1 0 1 1179648))
+
+abbrev pub wMeans : List ℕ
+wMeans = wUppers ++ (line 82 0 0 0 512 ++ line 82 1 0 0 256)
+
+-- Nothing is held: 40, whatever is filed or asked.
+abbrev pub nothingHeld : List Event
+nothingHeld =
+    due clear cleared
+    ∷ due (fileDelivery []) (refusal 40)
+    ∷ due (upper 0 0 0) (refusal 40)
+    ∷ due (lower 9 9 9) (refusal 40)
+    ∷ due (meanSteps 9 9) (refusal 40)
+    ∷ due margin (refusal 40)
+    ∷ due (live 9 9 9) (refusal 40)
+    ∷ due (fileModel []) (refusal 10)
+    ∷ due (live 0 0 0) (refusal 40)
+    ∷ []
+
+-- A model alone: 41 before the file is read, 42 before 44; live marks get 44 only.
+abbrev pub modelHeld : List Event
+modelHeld =
+    due (fileModel wFile) accepted
+    ∷ due (fileModel []) (refusal 41)
+    ∷ due (fileModel (oneRule 65536)) (refusal 41)
+    ∷ due (fileDelivery []) (refusal 20)
+    ∷ due (upper 0 0 0) (refusal 42)
+    ∷ due (lower 9 9 9) (refusal 42)
+    ∷ due (meanSteps 9 9) (refusal 42)
+    ∷ due margin (refusal 42)
+    ∷ due (live 2 0 0) (refusal 44)
+    ∷ due (live 0 1 0) (refusal 44)
+    ∷ due (live 0 0 2) (refusal 44)
+    ∷ due (live 1 0 0) (value 0)
+    ∷ due (live 1 0 1) (value 1)
+    ∷ []
+
+-- Uppers alone: 44 before 43, 43 for lowers, margin and mean steps.
+abbrev pub uppersHeld : List Event
+uppersHeld =
+    due (fileModel wFile) accepted
+    ∷ due (fileDelivery wUppers) new
+    ∷ due (fileDelivery wUppers) known
+    ∷ due (upper 0 0 1) (value 524288)
+    ∷ due (upper 1 0 1) (value 1179648)
+    ∷ due (upper 0 1 0) (refusal 44)
+    ∷ due (lower 0 0 2) (refusal 44)
+    ∷ due (lower 0 0 1) (refusal 43)
+    ∷ due (meanSteps 0 1) (refusal 44)
+    ∷ due (meanSteps 0 0) (refusal 43)
+    ∷ due margin (refusal 43)
+    ∷ []
+
+-- The same uppers with mean steps are known; lowers and the margin get 43.
+abbrev pub meansHeld : List Event
+meansHeld =
+    due (fileModel wFile) accepted
+    ∷ due (fileDelivery wUppers) new
+    ∷ due (fileDelivery wMeans) known
+    ∷ due (meanSteps 0 0) (value 512)
+    ∷ due (meanSteps 1 0) (value 256)
+    ∷ due (lower 0 0 0) (refusal 43)
+    ∷ due margin (refusal 43)
+    ∷ []
+
+-- All blocks; a refused delivery changes nothing; another upper is new; the former model's delivery is gone after a clearing.
+abbrev pub allHeld : List Event
+allHeld =
+    due (fileModel wFile) accepted
+    ∷ due (fileDelivery (wDelivery 524288 512)) new
+    ∷ due (fileDelivery (wDelivery 466033 512)) (refused 24 1 (negsuc 30064771071))
+    ∷ due margin (value 45875)
+    ∷ due (lower 0 0 1) (value 393216)
+    ∷ due (upper 0 0 1) (value 524288)
+    ∷ due (meanSteps 0 0) (value 512)
+    ∷ due (fileDelivery (wDelivery 466034 512)) new
+    ∷ due (upper 0 0 1) (value 466034)
+    ∷ due (fileDelivery (wDelivery 466034 486)) known
+    ∷ due (meanSteps 0 0) (value 486)
+    ∷ due clear cleared
+    ∷ due (upper 0 0 1) (refusal 40)
+    ∷ due (fileModel (oneRule 65536)) accepted
+    ∷ due (upper 0 0 0) (refusal 42)
+    ∷ []

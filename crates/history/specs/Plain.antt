@@ -1,0 +1,141 @@
+-- The plain pair of document 01: "the last accepted model since the last clearing, and the last delivery accepted for it", and what such a
+-- pair of files replies to a call.
+use Prim.Native.Nat.{ℕ}
+use mathlib.Core.Bool.{Bool, true, false, cond, _&&_}
+use mathlib.Core.List.{List, [], _∷_}
+use mathlib.Core.Option.{Option, none, some}
+use lib.Dec.{eqb, ltb}
+use Rattle.outcome.specs.declared.Outcome.{Outcome}
+use Rattle.outcome.specs.declared.Outcome.the-variants.{Accepted, Refused}
+use Rattle.outcome.specs.Reasons.{numberOf}
+use Rattle.model.specs.Records.{statesOf, symbolsOf}
+use Rattle.model.specs.Verdict.{modelVerdict}
+use Rattle.delivery.specs.declared.shape.Shape.{Shape}
+use Rattle.delivery.specs.declared.shape.Shaped.{Shaped}
+use Rattle.delivery.specs.declared.shape.Shaped.the-variants.{Of, Unknown}
+use Rattle.delivery.specs.Records.{byteOf, valueOf}
+use Rattle.delivery.specs.Shapes.{entriesIn, hasLowers, hasMeans, shapeOf}
+use Rattle.delivery.specs.Numbers.{uppersOf, lowersOf, meansOf}
+use Rattle.equations.specs.Shown.{liveMark}
+use Rattle.certificate.specs.Verdict.{verdict}
+use Rattle.certificate.specs.Margin.{marginOf}
+use Rattle.register.specs.Filing.{allTo}
+use Rattle.history.specs.Calls.{Call, clear, fileModel, fileDelivery, upper, lower, meanSteps, margin, live, Reply, cleared, accepted, known, new, value, refused, refusal, taken}
+
+-- ---- which files are held
+
+-- A call and its reply. A history stands latest first.
+pub record Event : Type 0 where
+  pub call : Call
+  pub reply : Reply
+
+-- The model last accepted since the last clearing: by one call more, whose reply says whether a file was taken.
+abbrev pub modelAfter : Call → Bool → Option (List ℕ) → Option (List ℕ)
+modelAfter clear t former = none
+modelAfter (fileModel b) t former = cond t (some b) former
+modelAfter (fileDelivery d) t former = former
+modelAfter (upper p z q) t former = former
+modelAfter (lower p z q) t former = former
+modelAfter (meanSteps p z) t former = former
+modelAfter margin t former = former
+modelAfter (live p z q) t former = former
+
+unfoldable pub lastModel : List Event → Option (List ℕ)
+lastModel [] = none
+lastModel (e ∷ es) = modelAfter (e .call) (taken (e .reply)) (lastModel es)
+
+-- The delivery last accepted for that model. One that was accepted before the model was is for another.
+abbrev pub deliveryAfter : Call → Bool → Option (List ℕ) → Option (List ℕ)
+deliveryAfter clear t former = none
+deliveryAfter (fileModel b) t former = cond t none former
+deliveryAfter (fileDelivery d) t former = cond t (some d) former
+deliveryAfter (upper p z q) t former = former
+deliveryAfter (lower p z q) t former = former
+deliveryAfter (meanSteps p z) t former = former
+deliveryAfter margin t former = former
+deliveryAfter (live p z q) t former = former
+
+unfoldable pub lastDelivery : List Event → Option (List ℕ)
+lastDelivery [] = none
+lastDelivery (e ∷ es) = deliveryAfter (e .call) (taken (e .reply)) (lastDelivery es)
+
+-- The plain pair.
+pub record Pair : Type 0 where
+  pub model : Option (List ℕ)
+  pub delivery : Option (List ℕ)
+
+abbrev pub pairOf : List Event → Pair
+pairOf es = record { model = lastModel es; delivery = lastDelivery es }
+
+-- ---- what a pair replies: the reasons found in the register come first, in the order 40, 41, 42, 44, 43
+
+-- 40, 42: no model, no delivery is held.
+abbrev pub ofModel : Option (List ℕ) → (List ℕ → Reply) → Reply
+ofModel none h = refusal 40
+ofModel (some b) h = h b
+
+abbrev pub ofDelivery : Option (List ℕ) → (List ℕ → Reply) → Reply
+ofDelivery none h = refusal 42
+ofDelivery (some d) h = h d
+
+-- 41: a model is held.
+abbrev pub ifNone : Option (List ℕ) → Reply → Reply
+ifNone none r = r
+ifNone (some b) r = refusal 41
+
+-- 44: a state or symbol is not of the held model b.
+abbrev pub atRow : List ℕ → ℕ → ℕ → Reply → Reply
+atRow b p z r = cond (ltb p (statesOf b) && ltb z (symbolsOf b)) r (refusal 44)
+
+abbrev pub atEntry : List ℕ → ℕ → ℕ → ℕ → Reply → Reply
+atEntry b p z q r = cond ((ltb p (statesOf b) && ltb z (symbolsOf b)) && ltb q (statesOf b)) r (refusal 44)
+
+-- 43: the held delivery's shape does not have the block.
+abbrev pub ofBlock : (Shape → Bool) → Shaped → (Shape → Reply) → Reply
+ofBlock has (Of h) k = cond (has h) (k h) (refusal 43)
+ofBlock has Unknown k = refusal 43
+
+-- The reply to a file by its verdict.
+abbrev pub byVerdict : Outcome → Reply → Reply
+byVerdict Accepted r = r
+byVerdict (Refused x i k) r = refused (numberOf x) i k
+
+-- Record i is the same in two deliveries: kind, p, Z, q and value.
+abbrev pub sameRecord : List ℕ → List ℕ → ℕ → Bool
+sameRecord d e i =
+    eqb (byteOf d i 0) (byteOf e i 0)
+    && (eqb (byteOf d i 1) (byteOf e i 1)
+    && (eqb (byteOf d i 2) (byteOf e i 2) && (eqb (byteOf d i 3) (byteOf e i 3) && eqb (valueOf d i) (valueOf e i))))
+
+-- Two deliveries for the model b have the same U block: records 0 to V − 1.
+unfoldable pub sameUppers : List ℕ → List ℕ → List ℕ → Bool
+sameUppers b d e = allTo (sameRecord d e) (entriesIn (statesOf b) (symbolsOf b))
+
+-- "Known" where a delivery was held whose U block is the same, else "new": document 01's marks.
+abbrev pub markOf : List ℕ → Option (List ℕ) → List ℕ → Reply
+markOf b none d = new
+markOf b (some e) d = cond (sameUppers b e d) known new
+
+-- The reply of the plain pair.
+unfoldable pub plain : Pair → Call → Reply
+plain x clear = cleared
+plain x (fileModel b) = ifNone (x .model) (byVerdict (modelVerdict b) accepted)
+plain x (fileDelivery d) = ofModel (x .model) (λ b. byVerdict (verdict b d) (markOf b (x .delivery) d))
+plain x (upper p z q) =
+    ofModel (x .model) (λ b. ofDelivery (x .delivery) (λ d. atEntry b p z q (value (uppersOf (statesOf b) (symbolsOf b) d p z q))))
+plain x (lower p z q) =
+    ofModel (x .model) (λ b. ofDelivery (x .delivery) (λ d.
+    atEntry b p z q (ofBlock hasLowers (shapeOf (statesOf b) (symbolsOf b) d) (λ h. value (lowersOf (statesOf b) (symbolsOf b) d p z q)))))
+plain x (meanSteps p z) =
+    ofModel (x .model) (λ b. ofDelivery (x .delivery) (λ d.
+    atRow b p z (ofBlock hasMeans (shapeOf (statesOf b) (symbolsOf b) d) (λ h. value (meansOf (statesOf b) (symbolsOf b) h d p z)))))
+plain x margin =
+    ofModel (x .model) (λ b. ofDelivery (x .delivery) (λ d.
+    ofBlock hasLowers (shapeOf (statesOf b) (symbolsOf b) d) (λ h. value (marginOf b d))))
+plain x (live p z q) = ofModel (x .model) (λ b. atEntry b p z q (value (liveMark b p z q)))
+
+-- The replies of the plain pair to calls in the order of time, after the history es.
+unfoldable pub plainReplies : List Event → List Call → List Reply
+plainReplies es [] = []
+plainReplies es (c ∷ cs) =
+    plain (pairOf es) c ∷ plainReplies (record { call = c; reply = plain (pairOf es) c } ∷ es) cs

@@ -1,0 +1,81 @@
+-- A register through any list of calls: what each call makes of it and replies, by the definitions that the calls' contracts cite.
+use Prim.Native.Nat.{ℕ}
+use mathlib.Core.List.{List, [], _∷_}
+use mathlib.Core.Option.{Option, none, some}
+use Rattle.outcome.specs.declared.Outcome.{Outcome}
+use Rattle.outcome.specs.declared.Outcome.the-variants as Outcomes
+use Rattle.outcome.specs.Reasons.{numberOf}
+use Rattle.register.specs.declared.Register.{Register}
+use Rattle.register.specs.declared.answer.Mark.{Mark}
+use Rattle.register.specs.declared.answer.Mark.the-variants as Marks
+use Rattle.register.specs.declared.answer.Answer.{Answer}
+use Rattle.register.specs.declared.answer.Answer.the-variants as Answers
+use Rattle.register.specs.Filing as Register
+use Rattle.register.specs.Questions.{upperIn, lowerIn, meanIn, marginIn, liveIn}
+use Rattle.history.specs.Calls.{Call, clear, fileModel, fileDelivery, upper, lower, meanSteps, margin, live, Reply, cleared, accepted, known, new, value, refused}
+use Rattle.history.specs.Plain.{Event, Pair}
+
+-- The number and the values of document 01 for each case of the answers of code. An accepted delivery is always marked.
+abbrev pub modelReply : Outcome → Reply
+modelReply Outcomes.Accepted = accepted
+modelReply (Outcomes.Refused x i k) = refused (numberOf x) i k
+
+abbrev pub markReply : Mark → Reply
+markReply Marks.Known = known
+markReply Marks.New = new
+markReply Marks.Absent = accepted
+
+abbrev pub deliveryReply : Outcome → Mark → Reply
+deliveryReply Outcomes.Accepted m = markReply m
+deliveryReply (Outcomes.Refused x i k) m = refused (numberOf x) i k
+
+abbrev pub answerReply : Answer → Reply
+answerReply (Answers.Value n) = value n
+answerReply (Answers.Refused x i k) = refused (numberOf x) i k
+
+-- The register after a call, and the reply.
+unfoldable pub after : Register → Call → Register
+after r clear = Register.cleared
+after r (fileModel b) = Register.fileModel r b .register
+after r (fileDelivery d) = Register.fileDelivery r d .register
+after r (upper p z q) = r
+after r (lower p z q) = r
+after r (meanSteps p z) = r
+after r margin = r
+after r (live p z q) = r
+
+unfoldable pub replyOf : Register → Call → Reply
+replyOf r clear = cleared
+replyOf r (fileModel b) = modelReply (Register.fileModel r b .outcome)
+replyOf r (fileDelivery d) = deliveryReply (Register.fileDelivery r d .outcome) (Register.fileDelivery r d .mark)
+replyOf r (upper p z q) = answerReply (upperIn r p z q)
+replyOf r (lower p z q) = answerReply (lowerIn r p z q)
+replyOf r (meanSteps p z) = answerReply (meanIn r p z)
+replyOf r margin = answerReply (marginIn r)
+replyOf r (live p z q) = answerReply (liveIn r p z q)
+
+-- The register after a list of calls, latest first, from an empty one; its history; and its reply to one call more.
+unfoldable pub registerAfter : List Call → Register
+registerAfter [] = Register.cleared
+registerAfter (c ∷ cs) = after (registerAfter cs) c
+
+abbrev pub replyTo : List Call → Call → Reply
+replyTo cs c = replyOf (registerAfter cs) c
+
+unfoldable pub history : List Call → List Event
+history [] = []
+history (c ∷ cs) = record { call = c; reply = replyTo cs c } ∷ history cs
+
+-- The replies of a register to calls in the order of time.
+unfoldable pub replies : Register → List Call → List Reply
+replies r [] = []
+replies r (c ∷ cs) = replyOf r c ∷ replies (after r c) cs
+
+-- The register that holds a pair of files.
+abbrev pub holding : Option (List ℕ) → Option (List ℕ) → Register
+holding none d = Register.cleared
+holding (some b) none = Register.withModel b
+holding (some b) (some d) = Register.received (Register.withModel b) b (Register.shapeFor b d) d .register
+
+unfoldable pub registerOf : Pair → Register
+registerOf x = holding (x .model) (x .delivery)

@@ -1,0 +1,5 @@
+-- The laws of parts of files and of the offending part, what the walks of walker.rt have in common, and the walk that both filings share.
+pub mod Wholes
+pub mod Offences
+pub mod Owned
+pub mod Lent

@@ -1,0 +1,74 @@
+-- `file_delivery`: the filing by value is called on a copy of the lent register, and what it gives is stored and answered.
+use mathlib.Core.Path.{refl, ap}
+use mathlib.Core.List.{[], _∷_}
+use mir.Syntax.{place, field, copy, aggregate, tcons, tnil}
+use mir.Val.{vnil, vcons}
+use base.Logic.{emp}
+use contract.Monad.{factI}
+use contract.Running.{givenOf, tables, tablesOf}
+use types.Kit.{ ! }
+use types.Run.{stop, fld, from, load, and-then, no-more}
+use types.Part.{whole, sub, look-in, agg}
+use denote.Steps.{only}
+use denote.Struct.Laws as LL
+use denote.Enum.Laws as EL
+use denote.Triple.Spec.{tripleOf}
+use denote.Triple.Table.{entered, cited}
+use Rattle.outcome.proofs.Outcome as O
+use Rattle.outcome.proofs.Outcome.Laws as O′
+use Rattle.register.specs.declared.Received.{Received}
+use Rattle.register.specs.Filing.{fileDelivery}
+use Rattle.register.proofs.answer.Mark as K
+use Rattle.register.proofs.answer.Mark.Laws as K′
+use Rattle.register.proofs.Received as F
+use Rattle.register.proofs.Received.Laws as F′
+use Rattle.register.proofs.Register.file_delivery.Symbol as callee
+use Rattle.register.proofs.Register.file_delivery.Met as callee-thm
+use Rattle.lent.specs.declared.filing.Receipt.{Receipt}
+use Rattle.lent.proofs.Lent.{Filing, Files, meets}
+use Rattle.lent.proofs.filing.Receipt as T
+use Rattle.lent.proofs.filing.Receipt.Laws as T′
+use Rattle.lent.proofs.filing.file_delivery.Key.{name as #file-delivery}
+use Rattle.lent.proofs.filing.file_delivery as self
+use Rattle.lent.proofs.filing.file_delivery.Statement as stated
+use Rattle.lent.proofs.filing.file_delivery.Code as code
+
+-- The receipt of what is given.
+abbrev receipt : Received → Receipt
+receipt f = record { outcome = f .outcome; mark = f .mark }
+
+-- `_3` holds a `Received`, whose second and third field are answered.
+abbrev filing : Filing
+filing = record {
+  callee = callee.name;
+  given = F.the-row;
+  name = F.the-type .name;
+  tys = tcons O′.mir (tcons K′.mir tnil);
+  register = λ f. f .register;
+  others = λ f. vcons (EL.val O.the-type O′.the-laws (f .outcome)) (vcons (EL.val K.the-type K′.the-laws (f .mark)) vnil);
+  files = fileDelivery;
+  result = T.the-row;
+  ty = T′.mir;
+  answer = receipt;
+  answer-val = λ f. LL.val T.the-type T′.the-laws (receipt f);
+  right-side = aggregate (copy (place 3 (field 1 ∷ [])) ∷ copy (place 3 (field 2 ∷ [])) ∷ []);
+  spelled = λ f u is. ap only (LL.tells F.the-type F′.the-laws f (u ∷ []) is);
+  registered = λ f u is. LL.owed F.the-type F′.the-laws f (u ∷ []) is .0;
+  answered = λ f u is. LL.owes T.the-type T′.the-laws (receipt f) (LL.owed F.the-type F′.the-laws f (u ∷ []) is .1);
+  makes = λ 𝓤 H A. LL.makes T.the-type T′.the-plain 𝓤 H A;
+  typed = λ 𝓤 H A W f u is. LL.lawful F.the-type F′.the-laws 𝓤 H A W .typed f (u ∷ []) is .0;
+  answer-typed = λ 𝓤 H A W f is. LL.lawful T.the-type T′.the-laws 𝓤 H A W .typed (receipt f) _ is .0;
+  evaluates = λ 𝓤 H A W Γ e₀ e₁ e₂ E l f.
+      agg ! (and-then ! (load ! (from ! (fld ! refl (stop !))) (look-in ! 0 (sub ! 1 refl (whole !))))
+      (and-then ! (load ! (from ! (fld ! refl (stop !))) (look-in ! 0 (sub ! 2 refl (whole !)))) (no-more !)));
+}
+
+pub file-delivery-spec : {M : Type 1} → stated.statement M
+unfolding code.routine tablesOf
+file-delivery-spec 𝓤 H 𝓜 𝓖 𝓡 =
+    entered 𝓤 H (tripleOf 𝓤 H (𝓖 .A) self.signature (self.spec 𝓤 H (𝓖 .A) (𝓜 .mem) (𝓡 .run)))
+    (tables 𝓤 H 𝓜 𝓡 code.env .C) (tables 𝓤 H 𝓜 𝓡 code.env .Λ) #file-delivery code.function (code.unfolded 𝓤 H 𝓜 𝓡)
+    (meets filing 𝓤 H (𝓖 .A) (givenOf 𝓤 H 𝓜 𝓖) (λ κs a. self.clauses 𝓤 H (𝓖 .A) (𝓜 .mem) (𝓡 .run) κs a .ensures tt)
+    (λ κs a. factI 𝓤 _ (emp 𝓤) (refl, refl, refl)) (tablesOf 𝓤 H 𝓜 (tables 𝓤 H 𝓜 𝓡 code.env))
+    (cited 𝓤 H (Files filing 𝓤 H (𝓖 .A)) 𝓜 𝓡 code.env callee.name callee.routine code.calls-register·Register·file-delivery
+    (callee-thm.met 𝓤 H 𝓜 𝓖 𝓡)))

@@ -1,0 +1,62 @@
+-- `file_model`: the filing by value is called on a copy of the lent register, and what it gives is stored and answered.
+use mathlib.Core.Path.{refl, ap}
+use mathlib.Core.List.{[], _∷_}
+use mir.Syntax.{place, field, copy, rvOpd, tcons, tnil}
+use mir.Val.{vnil, vcons}
+use base.Logic.{emp}
+use contract.Monad.{factI}
+use contract.Running.{givenOf, tables, tablesOf}
+use types.Kit.{ ! }
+use types.Run.{stop, fld, from, load, of-opd}
+use types.Part.{whole, sub, look-in}
+use denote.Steps.{only}
+use denote.Struct.Laws as LL
+use denote.Enum.Laws as EL
+use denote.Triple.Spec.{tripleOf}
+use denote.Triple.Table.{entered, cited}
+use Rattle.outcome.proofs.Outcome as O
+use Rattle.outcome.proofs.Outcome.Laws as O′
+use Rattle.register.specs.Filing.{fileModel}
+use Rattle.register.proofs.Filed as F
+use Rattle.register.proofs.Filed.Laws as F′
+use Rattle.register.proofs.Register.file_model.Symbol as callee
+use Rattle.register.proofs.Register.file_model.Met as callee-thm
+use Rattle.lent.proofs.Lent.{Filing, Files, meets}
+use Rattle.lent.proofs.filing.file_model.Key.{name as #file-model}
+use Rattle.lent.proofs.filing.file_model as self
+use Rattle.lent.proofs.filing.file_model.Statement as stated
+use Rattle.lent.proofs.filing.file_model.Code as code
+
+-- `_3` holds a `Filed`, whose second field is answered.
+abbrev filing : Filing
+filing = record {
+  callee = callee.name;
+  given = F.the-row;
+  name = F.the-type .name;
+  tys = tcons O′.mir tnil;
+  register = λ f. f .register;
+  others = λ f. vcons (EL.val O.the-type O′.the-laws (f .outcome)) vnil;
+  files = fileModel;
+  result = O.the-row;
+  ty = O′.mir;
+  answer = λ f. f .outcome;
+  answer-val = λ f. EL.val O.the-type O′.the-laws (f .outcome);
+  right-side = rvOpd (copy (place 3 (field 1 ∷ [])));
+  spelled = λ f u is. ap only (LL.tells F.the-type F′.the-laws f (u ∷ []) is);
+  registered = λ f u is. LL.owed F.the-type F′.the-laws f (u ∷ []) is .0;
+  answered = λ f u is. LL.owed F.the-type F′.the-laws f (u ∷ []) is .1 .0;
+  makes = λ 𝓤 H A. EL.makes O.the-type O′.the-plain 𝓤 H A;
+  typed = λ 𝓤 H A W f u is. LL.lawful F.the-type F′.the-laws 𝓤 H A W .typed f (u ∷ []) is .0;
+  answer-typed = λ 𝓤 H A W f is. EL.lawful O.the-type O′.the-laws 𝓤 H A W tt .typed (f .outcome) _ is .0;
+  evaluates = λ 𝓤 H A W Γ e₀ e₁ e₂ E l f. of-opd ! (load ! (from ! (fld ! refl (stop !))) (look-in ! 0 (sub ! 1 refl (whole !))));
+}
+
+pub file-model-spec : {M : Type 1} → stated.statement M
+unfolding code.routine tablesOf
+file-model-spec 𝓤 H 𝓜 𝓖 𝓡 =
+    entered 𝓤 H (tripleOf 𝓤 H (𝓖 .A) self.signature (self.spec 𝓤 H (𝓖 .A) (𝓜 .mem) (𝓡 .run)))
+    (tables 𝓤 H 𝓜 𝓡 code.env .C) (tables 𝓤 H 𝓜 𝓡 code.env .Λ) #file-model code.function (code.unfolded 𝓤 H 𝓜 𝓡)
+    (meets filing 𝓤 H (𝓖 .A) (givenOf 𝓤 H 𝓜 𝓖) (λ κs a. self.clauses 𝓤 H (𝓖 .A) (𝓜 .mem) (𝓡 .run) κs a .ensures tt)
+    (λ κs a. factI 𝓤 _ (emp 𝓤) (refl, refl)) (tablesOf 𝓤 H 𝓜 (tables 𝓤 H 𝓜 𝓡 code.env))
+    (cited 𝓤 H (Files filing 𝓤 H (𝓖 .A)) 𝓜 𝓡 code.env callee.name callee.routine code.calls-register·Register·file-model
+    (callee-thm.met 𝓤 H 𝓜 𝓖 𝓡)))

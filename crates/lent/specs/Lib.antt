@@ -1,0 +1,2 @@
+-- Parts of files.
+pub mod Parts
