@@ -2,14 +2,20 @@
 -- fits a u32.
 use Prim.Native.Nat.{ℕ, _+_, _*_, _/_, _%_, _<_}
 use native.Mathlib.Omega.{arith}
+use mathlib.Core.List.{List}
 use mathlib.Core.Logic.{_↔_}
 use mathlib.Core.Path.{_≡_, refl}
 use lib.IntN.{ℤ}
 use Rattle.outcome.specs.declared.Reason.{Reason}
+use Rattle.outcome.specs.declared.Reason.the-variants.{UpperTooSmall}
 use Rattle.outcome.specs.declared.Outcome.{Outcome}
 use Rattle.outcome.specs.declared.Outcome.the-variants.{Accepted, Refused}
 use Rattle.outcome.specs.Reasons.{numberOf}
 use Rattle.outcome.proofs.Numbers.{number-some, number-small}
+use Rattle.model.specs.Verdict.{modelVerdict}
+use Rattle.model.proofs.Places.{model-place}
+use Rattle.certificate.specs.Verdict.{verdict}
+use Rattle.certificate.proofs.Places.{place-fits}
 use Rattle.bounds.specs.Codes.{placeOf, codeOf}
 
 -- ---- what the number says
@@ -23,12 +29,20 @@ code-accepted (Refused r i k) = (
 )
 
 -- A refusal's number and place, taken apart again.
-module _ (o : Outcome) {r : Reason} {i : ℕ} {k : ℤ} (refused : o ≡ Refused r i k) (below : i < 65536) where
-  pub code-number : codeOf o / 65536 ≡ numberOf r
-  code-number = rw refused (omega arith)
+apart : (o : Outcome) {r : Reason} {i : ℕ} {k : ℤ} → o ≡ Refused r i k → i < 65536 → (codeOf o / 65536 ≡ numberOf r) × (codeOf o % 65536 ≡ i)
+apart o refused below = (rw refused (omega arith), rw refused (omega arith))
 
-  pub code-place : codeOf o % 65536 ≡ i
-  code-place = rw refused (omega arith)
+pub model-code : (b : List ℕ) {r : Reason} {i : ℕ} {k : ℤ} → modelVerdict b ≡ Refused r i k
+    → (codeOf (modelVerdict b) / 65536 ≡ numberOf r) × (codeOf (modelVerdict b) % 65536 ≡ i)
+model-code b refused = apart (modelVerdict b) refused (model-place b _ _ _ refused)
+
+pub delivery-code : (b d : List ℕ) {r : Reason} {i : ℕ} {k : ℤ} → verdict b d ≡ Refused r i k
+    → (codeOf (verdict b d) / 65536 ≡ numberOf r) × (codeOf (verdict b d) % 65536 ≡ i)
+delivery-code b d refused = apart (verdict b d) refused (place-fits b d _ _ _ refused)
+
+-- 24 at place 1 is 1572865.
+pub code-of-24 : (k : ℤ) → codeOf (Refused UpperTooSmall 1 k) ≡ 1572865
+code-of-24 k = refl
 
 -- ---- how the code makes it
 

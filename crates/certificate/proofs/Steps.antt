@@ -62,7 +62,7 @@ sized-by-verdict {b} d accepted states symbols =
 -- ---- numbers in range, by how many records n the code takes
 
 -- The part of a file from record n on is all that follows the first n records.
-part-from : (d : List ℕ) {n m : ℕ} → n ≡ m → take (length d - 8 * n) (drop (8 * n) d) ≡ drop (8 * m) d
+pub part-from : (d : List ℕ) {n m : ℕ} → n ≡ m → take (length d - 8 * n) (drop (8 * n) d) ≡ drop (8 * m) d
 part-from d {n} e = take-all (length d - 8 * n) (drop (8 * n) d) (omega (arith, length-drop (8 * n) d)) ∙ ap (λ k. drop (8 * k) d) e
 
 -- A right layout has its uppers and its rest in range.

@@ -3,3 +3,4 @@ pub mod Wholes
 pub mod Offences
 pub mod Owned
 pub mod Lent
+pub mod Edges

@@ -1,2 +1,3 @@
--- Parts of files.
+-- Parts of files, and a table of offending records.
 pub mod Parts
+pub mod Edges

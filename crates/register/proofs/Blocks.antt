@@ -3,9 +3,8 @@ use Prim.Native.Nat.{ℕ, _+_, _-_, _*_, _≤_}
 use native.Mathlib.Omega.{arith}
 use mathlib.Core.Bool.{Bool, true, false}
 use mathlib.Core.List.{List}
-use mathlib.Core.Path.{_≡_, _∙_}
+use mathlib.Core.Path.{_≡_, refl, _∙_}
 use lib.ListN.{length, take, drop, replicate, length-drop}
-use lib.Seq.{take-all}
 use Rattle.delivery.specs.declared.shape.Shape.{Shape}
 use Rattle.delivery.specs.Shapes.{entriesIn, rowsIn, meansFrom}
 use Rattle.delivery.specs.Numbers.{rowAt, uppersOf, lowersOf, meansOf}
@@ -13,18 +12,16 @@ use Rattle.delivery.specs.Walks.{Values}
 use Rattle.delivery.proofs.Walks.{rest-value}
 use Rattle.certificate.proofs.Blocks.{values-same, values-rows}
 use Rattle.certificate.proofs.Rest.{rest-lowers}
+use Rattle.certificate.proofs.Steps.{part-from}
 use Rattle.register.specs.Held.{listed, listedRows, ifStanding}
 use Rattle.register.proofs.Lists.{listed-is, rows-is}
 
 -- ---- the part of a file from record n on
 
-part-from : (d : List ℕ) (n : ℕ) → take (length d - 8 * n) (drop (8 * n) d) ≡ drop (8 * n) d
-part-from d n = take-all (length d - 8 * n) (drop (8 * n) d) (omega (arith, length-drop (8 * n) d))
-
 -- It has the m records that follow, where n and m are i and j.
 pub part-holds : (d : List ℕ) {n m i j : ℕ} → n ≡ i → m ≡ j → 8 * (i + j) ≤ length d
     → 8 * m ≤ length (take (length d - 8 * n) (drop (8 * n) d))
-part-holds d {n} start e fits = rw (part-from d n, length-drop (8 * n) d) (omega arith)
+part-holds d {n} start e fits = rw (part-from d {n = n} refl, length-drop (8 * n) d) (omega arith)
 
 -- ---- the numbers of each block, by how many records the code takes
 
@@ -36,7 +33,7 @@ module _ (s g : ℕ) (d : List ℕ) {l : List ℕ} {n : ℕ} where
 
   pub lowers-listed : n ≡ entriesIn s g → Values (take (length d - 8 * n) (drop (8 * n) d)) n l → l ≡ listed s g (lowersOf s g d)
   lowers-listed e values =
-      let whole : Values (drop (8 * entriesIn s g) d) (entriesIn s g) l = rw (part-from d n, e) at values in
+      let whole : Values (drop (8 * entriesIn s g) d) (entriesIn s g) l = rw (part-from d {n = n} refl, e) at values in
       listed-is s g (lowersOf s g d) (whole .size)
       (λ p z q hp hz hq. values-same s g whole p z q hp hz hq ∙ rest-lowers s g d p z q hp hz hq) (whole .none)
 
@@ -44,7 +41,7 @@ module _ (s g : ℕ) (d : List ℕ) {l : List ℕ} {n : ℕ} where
       → Values (take (length d - 8 * from) (drop (8 * from) d)) n l → l ≡ listedRows s g (meansOf s g h d)
   unfolding meansOf
   means-listed h {from} start e values =
-      let whole : Values (drop (8 * meansFrom s g h) d) (rowsIn s g) l = rw (part-from d from, start, e) at values in
+      let whole : Values (drop (8 * meansFrom s g h) d) (rowsIn s g) l = rw (part-from d {n = from} refl, start, e) at values in
       rows-is s g (meansOf s g h d) (whole .size)
       (λ p z hp hz. values-rows s g whole p z hp hz ∙ rest-value d (meansFrom s g h) (rowAt g p z)) (whole .none)
 
