@@ -1,5 +1,5 @@
 /* Checks of models and deliveries, for C hosts: link with libbounds.a. Every call reads the given bytes only, keeps nothing, and ends on
-   every input; a length may be 0. */
+   every input. A length may be 0; a pointer is never NULL, also where the length is 0. */
 #ifndef BOUNDS_H
 #define BOUNDS_H
 

@@ -5,18 +5,20 @@ use native.Mathlib.Omega.{arith}
 use mathlib.Core.List.{List}
 use mathlib.Core.Logic.{_↔_}
 use mathlib.Core.Path.{_≡_, refl}
-use lib.IntN.{ℤ}
+use lib.IntN.{ℤ, negsuc}
 use Rattle.outcome.specs.declared.Reason.{Reason}
-use Rattle.outcome.specs.declared.Reason.the-variants.{UpperTooSmall}
 use Rattle.outcome.specs.declared.Outcome.{Outcome}
 use Rattle.outcome.specs.declared.Outcome.the-variants.{Accepted, Refused}
 use Rattle.outcome.specs.Reasons.{numberOf}
 use Rattle.outcome.proofs.Numbers.{number-some, number-small}
 use Rattle.model.specs.Verdict.{modelVerdict}
+use Rattle.model.specs.W.{wFile}
 use Rattle.model.proofs.Places.{model-place}
 use Rattle.certificate.specs.Verdict.{verdict}
+use Rattle.certificate.specs.Edges.{refused, answerOf, wDelivery}
+use Rattle.certificate.proofs.Edges.{edges-hold}
 use Rattle.certificate.proofs.Places.{place-fits}
-use Rattle.bounds.specs.Codes.{placeOf, codeOf}
+use Rattle.bounds.specs.Codes.{placeOf, codeOf, shortfallOf}
 
 -- ---- what the number says
 
@@ -30,19 +32,24 @@ code-accepted (Refused r i k) = (
 
 -- A refusal's number and place, taken apart again.
 apart : (o : Outcome) {r : Reason} {i : ℕ} {k : ℤ} → o ≡ Refused r i k → i < 65536 → (codeOf o / 65536 ≡ numberOf r) × (codeOf o % 65536 ≡ i)
-apart o refused below = (rw refused (omega arith), rw refused (omega arith))
+apart o e below = (rw e (omega arith), rw e (omega arith))
 
 pub model-code : (b : List ℕ) {r : Reason} {i : ℕ} {k : ℤ} → modelVerdict b ≡ Refused r i k
     → (codeOf (modelVerdict b) / 65536 ≡ numberOf r) × (codeOf (modelVerdict b) % 65536 ≡ i)
-model-code b refused = apart (modelVerdict b) refused (model-place b _ _ _ refused)
+model-code b e = apart (modelVerdict b) e (model-place b _ _ _ e)
 
 pub delivery-code : (b d : List ℕ) {r : Reason} {i : ℕ} {k : ℤ} → verdict b d ≡ Refused r i k
     → (codeOf (verdict b d) / 65536 ≡ numberOf r) × (codeOf (verdict b d) % 65536 ≡ i)
-delivery-code b d refused = apart (verdict b d) refused (place-fits b d _ _ _ refused)
+delivery-code b d e = apart (verdict b d) e (place-fits b d _ _ _ e)
 
--- 24 at place 1 is 1572865.
-pub code-of-24 : (k : ℤ) → codeOf (Refused UpperTooSmall 1 k) ≡ 1572865
-code-of-24 k = refl
+-- An outcome by document 01's numbers, as one number and its shortfall.
+by-answer : (o : Outcome) {n j : ℕ} {k : ℤ} → answerOf o ≡ refused n j k → (codeOf o ≡ n * 65536 + j) × (shortfallOf o ≡ k)
+by-answer Accepted e = let z : _≡_ {A = ℕ} 0 1 = cc in absurd (omega arith)
+by-answer (Refused r i k) {n} {j} e = let number : numberOf r ≡ n = cc in let place : i ≡ j = cc in (rw (number, place), cc)
+
+-- W with second upper 466,033: 24 at place 1, which is 1572865, and the shortfall −30064771072.
+pub w-code : (codeOf (verdict wFile (wDelivery 466033 512)) ≡ 1572865) × (shortfallOf (verdict wFile (wDelivery 466033 512)) ≡ negsuc 30064771071)
+w-code = by-answer (verdict wFile (wDelivery 466033 512)) (edges-hold .1 .1 .1 .1 .0)
 
 -- ---- how the code makes it
 

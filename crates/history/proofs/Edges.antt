@@ -23,30 +23,14 @@ use Rattle.certificate.specs.Verdict.{numberTests, shapedTests, deliveryTests}
 use Rattle.certificate.specs.Margin.{marginOf}
 use Rattle.register.specs.Filing.{allTo}
 use Rattle.history.specs.Plain.{Event, lastModel, lastDelivery, sameUppers, plain, plainReplies}
-use Rattle.history.specs.Edges.{callOf, replyDue, AllReplied, Replied, nothingHeld, modelHeld, uppersHeld, meansHeld, allHeld}
+use Rattle.history.specs.Edges.{callOf, replyDue, AllReplied, Replied, emptyExchanges, modelExchanges, upperExchanges, lowerExchanges, meanExchanges, allExchanges}
 use Rattle.history.proofs.Replies.{replies-as-plain}
 
 -- ---- computed
 
-nothing-held : AllReplied [] nothingHeld
+computed : AllReplied [] emptyExchanges × AllReplied [] modelExchanges × AllReplied [] upperExchanges × AllReplied [] lowerExchanges × AllReplied [] meanExchanges × AllReplied [] allExchanges
 unfolding first each wordAt sign sum sumTo leastTo fits overRow f meanSide mark alive share shareAt margin recordsOf field weight greatestTo statesOf symbolsOf ruleOf listTo rulesOf rowOf rowSum wholeRecords rangeAt unusedAt weightAt ascends recordTests rowTests modelTests modelVerdict byteOf valueOf meansFrom recordsIn longAs lowersOrMeans shapeOf uppersOf lowersOf meansOf eachEntry eachRow isDue inRange layout.recordTests deadTest upperTest belowTest lowerTest meanTest upperRecords lowerRecords meanRecords deadTests upperTests belowTests lowerTests meanTests layoutTests numberTests shapedTests deliveryTests verdict.verdict marginOf liveMark allTo lastModel lastDelivery sameUppers plain
-nothing-held = (refl, (refl, (refl, (refl, (refl, (refl, (refl, (refl, (refl, tt)))))))))
-
-model-held : AllReplied [] modelHeld
-unfolding first each wordAt sign sum sumTo leastTo fits overRow f meanSide mark alive share shareAt margin recordsOf field weight greatestTo statesOf symbolsOf ruleOf listTo rulesOf rowOf rowSum wholeRecords rangeAt unusedAt weightAt ascends recordTests rowTests modelTests modelVerdict byteOf valueOf meansFrom recordsIn longAs lowersOrMeans shapeOf uppersOf lowersOf meansOf eachEntry eachRow isDue inRange layout.recordTests deadTest upperTest belowTest lowerTest meanTest upperRecords lowerRecords meanRecords deadTests upperTests belowTests lowerTests meanTests layoutTests numberTests shapedTests deliveryTests verdict.verdict marginOf liveMark allTo lastModel lastDelivery sameUppers plain
-model-held = (refl, (refl, (refl, (refl, (refl, (refl, (refl, (refl, (refl, (refl, (refl, (refl, (refl, tt)))))))))))))
-
-uppers-held : AllReplied [] uppersHeld
-unfolding first each wordAt sign sum sumTo leastTo fits overRow f meanSide mark alive share shareAt margin recordsOf field weight greatestTo statesOf symbolsOf ruleOf listTo rulesOf rowOf rowSum wholeRecords rangeAt unusedAt weightAt ascends recordTests rowTests modelTests modelVerdict byteOf valueOf meansFrom recordsIn longAs lowersOrMeans shapeOf uppersOf lowersOf meansOf eachEntry eachRow isDue inRange layout.recordTests deadTest upperTest belowTest lowerTest meanTest upperRecords lowerRecords meanRecords deadTests upperTests belowTests lowerTests meanTests layoutTests numberTests shapedTests deliveryTests verdict.verdict marginOf liveMark allTo lastModel lastDelivery sameUppers plain
-uppers-held = (refl, (refl, (refl, (refl, (refl, (refl, (refl, (refl, (refl, (refl, (refl, tt)))))))))))
-
-means-held : AllReplied [] meansHeld
-unfolding first each wordAt sign sum sumTo leastTo fits overRow f meanSide mark alive share shareAt margin recordsOf field weight greatestTo statesOf symbolsOf ruleOf listTo rulesOf rowOf rowSum wholeRecords rangeAt unusedAt weightAt ascends recordTests rowTests modelTests modelVerdict byteOf valueOf meansFrom recordsIn longAs lowersOrMeans shapeOf uppersOf lowersOf meansOf eachEntry eachRow isDue inRange layout.recordTests deadTest upperTest belowTest lowerTest meanTest upperRecords lowerRecords meanRecords deadTests upperTests belowTests lowerTests meanTests layoutTests numberTests shapedTests deliveryTests verdict.verdict marginOf liveMark allTo lastModel lastDelivery sameUppers plain
-means-held = (refl, (refl, (refl, (refl, (refl, (refl, (refl, tt)))))))
-
-all-held : AllReplied [] allHeld
-unfolding first each wordAt sign sum sumTo leastTo fits overRow f meanSide mark alive share shareAt margin recordsOf field weight greatestTo statesOf symbolsOf ruleOf listTo rulesOf rowOf rowSum wholeRecords rangeAt unusedAt weightAt ascends recordTests rowTests modelTests modelVerdict byteOf valueOf meansFrom recordsIn longAs lowersOrMeans shapeOf uppersOf lowersOf meansOf eachEntry eachRow isDue inRange layout.recordTests deadTest upperTest belowTest lowerTest meanTest upperRecords lowerRecords meanRecords deadTests upperTests belowTests lowerTests meanTests layoutTests numberTests shapedTests deliveryTests verdict.verdict marginOf liveMark allTo lastModel lastDelivery sameUppers plain
-all-held = (refl, (refl, (refl, (refl, (refl, (refl, (refl, (refl, (refl, (refl, (refl, (refl, (refl, (refl, (refl, tt)))))))))))))))
+computed = ((refl, (refl, (refl, (refl, (refl, (refl, (refl, (refl, (refl, tt))))))))), (refl, (refl, (refl, (refl, (refl, (refl, (refl, (refl, (refl, (refl, (refl, (refl, (refl, tt))))))))))))), (refl, (refl, (refl, (refl, (refl, (refl, (refl, (refl, (refl, (refl, (refl, (refl, (refl, (refl, (refl, (refl, tt)))))))))))))))), (refl, (refl, (refl, (refl, (refl, (refl, tt)))))), (refl, (refl, (refl, (refl, (refl, (refl, (refl, tt))))))), (refl, (refl, (refl, (refl, (refl, (refl, (refl, (refl, (refl, (refl, (refl, (refl, (refl, (refl, (refl, (refl, tt)))))))))))))))))
 
 -- ---- so does a register
 
@@ -58,11 +42,12 @@ as-due past (e ∷ es) all = rw (all .0) (ap (λ rs. e .reply ∷ rs) (as-due (e
 replied : (es : List Event) → AllReplied [] es → Replied es
 replied es all = replies-as-plain (map callOf es) ∙ as-due [] es all
 
-pub exchanges-replied : Replied nothingHeld × Replied modelHeld × Replied uppersHeld × Replied meansHeld × Replied allHeld
+pub exchanges-replied : Replied emptyExchanges × Replied modelExchanges × Replied upperExchanges × Replied lowerExchanges × Replied meanExchanges × Replied allExchanges
 exchanges-replied = (
-  replied nothingHeld nothing-held,
-  replied modelHeld model-held,
-  replied uppersHeld uppers-held,
-  replied meansHeld means-held,
-  replied allHeld all-held,
+  replied emptyExchanges (computed .0),
+  replied modelExchanges (computed .1),
+  replied upperExchanges (computed .2),
+  replied lowerExchanges (computed .3),
+  replied meanExchanges (computed .4),
+  replied allExchanges (computed .5),
 )

@@ -4,9 +4,11 @@ use Prim.Native.Nat.{ℕ, _*_, _^_, _≤_, _<_}
 use native.Mathlib.Omega.{arith}
 use mathlib.Core.Bool.{Bool, true, false, cond, _&&_}
 use mathlib.Core.List.{List}
+use mathlib.Core.Logic.{_⊎_, inl, inr}
 use mathlib.Core.Option.{Option, none, some}
 use mathlib.Core.Path.{_≡_, refl, sym, _∙_}
 use lib.Dec.{ltb}
+use lib.IntN.{ℤ}
 use borrow.Author.Tests.{lt-ltb}
 use Rattle.outcome.specs.declared.Outcome.the-variants.{Accepted}
 use Rattle.outcome.proofs.Exactly.{lt-exactly, both}
@@ -26,10 +28,10 @@ use Rattle.equations.proofs.Shown.{live-marks-by-runs}
 use Rattle.certificate.specs.Verdict.{verdict}
 use Rattle.certificate.specs.Margin.{marginOf}
 use Rattle.certificate.proofs.Holds.{upper-of-files, lower-of-shape, lower-as-shown-of-shape, mean-of-files}
-use Rattle.history.specs.Calls.{Call, upper, lower, meanSteps, margin, live, Reply, value, refusal}
+use Rattle.history.specs.Calls.{Call, upper, lower, meanSteps, margin, live, Reply, value, refused, refusal}
 use Rattle.history.specs.Plain.{lastModel, lastDelivery, ofModel, ofDelivery, ofBlock, atEntry, atRow, plain}
 use Rattle.history.specs.Run.{replyTo, history}
-use Rattle.history.specs.Mission.{Holds, UpperShown, LowerHeld, LowerShown, MeanShown, LiveShown}
+use Rattle.history.specs.Mission.{Holds, UpperShown, LowerHeld, LowerShown, MeanShown, LiveShown, LiveRefused}
 use Rattle.history.proofs.Pairs.{lowerReply, meanReply, Right, model-right}
 use Rattle.history.proofs.Plain.{right-pair, as-plain-pair}
 
@@ -169,3 +171,19 @@ live-shown cs p z q a e =
     let is = model-held-right (lastDelivery (history cs)) (right-pair cs) held in
     let same : liveMark b p z q ≡ a = cc in
     (b, held, rw same at (live-marks-by-runs b is p z q hp hz hq), rw same at (live-bit b p z q is))
+
+-- A number, where a model is held and a test is passed; else 40 or 44.
+forty-or-44 : (m : Option (List ℕ)) (t : List ℕ → Bool) (v : List ℕ → ℕ) {n i : ℕ} {k : ℤ}
+    → ofModel m (λ b. cond (t b) (value (v b)) (refusal 44)) ≡ refused n i k → (n ≡ 40) ⊎ (n ≡ 44)
+forty-or-44 none t v e = inl cc
+forty-or-44 (some b) t v {n} {i} {k} e = go (t b) e
+  where
+    go : (a : Bool) → cond a (value (v b)) (refusal 44) ≡ refused n i k → (n ≡ 40) ⊎ (n ≡ 44)
+    go true e = let z : _≡_ {A = ℕ} 0 1 = cc in absurd (omega arith)
+    go false e = inr cc
+
+pub live-refused : (cs : List Call) → LiveRefused cs
+unfolding plain
+live-refused cs p z q number place shortfall e =
+    forty-or-44 (lastModel (history cs)) (λ b. (ltb p (statesOf b) && ltb z (symbolsOf b)) && ltb q (statesOf b)) (λ b. liveMark b p z q)
+    (sym (as-plain-pair cs (live p z q)) ∙ e)

@@ -33,7 +33,7 @@ use Rattle.register.specs.declared.answer.Mark.the-variants.{Known, New}
 use Rattle.register.specs.Held.{listed, listedRows, noModel, modelHeld, numbersHeld, holdsModel}
 use Rattle.register.specs.Filing as Filing
 use Rattle.register.specs.Filing.{fileOf, withModel, modelBy, deliveryBy, received, shapeFor, sameTo, markBy}
-use Rattle.register.specs.Questions.{answered, hasRow, hasEntry, rowIn, entryIn, upperIn, lowerIn, meanIn, marginIn, liveIn}
+use Rattle.register.specs.Questions.{answered, hasRow, hasEntry, rowValue, entryValue, upperIn, lowerIn, meanIn, marginIn, liveIn}
 use Rattle.register.proofs.Lists.{listed-at, rows-at, filled-back, all-exactly, same-found}
 use Rattle.history.specs.Calls.{Call, clear, fileModel, fileDelivery, upper, lower, meanSteps, margin, live, Reply, accepted, known, new, value, refusal, taken}
 use Rattle.history.specs.Plain.{Pair, ofModel, ofDelivery, ifNone, atRow, atEntry, ofBlock, byVerdict, sameRecord, sameUppers, markOf, modelAfter, deliveryAfter, plain}
@@ -56,9 +56,9 @@ Right (some b) (some d) = verdict b d ≡ Accepted
 
 module _ (s g : ℕ) (l : List ℕ) (block : Bool) where
   entry-reply : (v : Vector) → (block ≡ true → Same s g (entries s g l) v) → (p z q : ℕ)
-      → answerReply (answered true true (hasEntry s g p z q) block (entryIn s g l p z q))
+      → answerReply (answered true true (hasEntry s g p z q) block (entryValue s g l p z q))
       ≡ cond ((ltb p s && ltb z g) && ltb q s) (cond block (value (v p z q)) (refusal 43)) (refusal 44)
-  unfolding hasEntry hasRow entryIn
+  unfolding hasEntry hasRow entryValue
   entry-reply v same p z q = go ((ltb p s && ltb z g) && ltb q s) refl block refl
     where
       go : (t : Bool) → ((ltb p s && ltb z g) && ltb q s) ≡ t → (k : Bool) → block ≡ k
@@ -70,9 +70,9 @@ module _ (s g : ℕ) (l : List ℕ) (block : Bool) where
       go false e k has = refl
 
   row-reply : (v : RowVector) → (block ≡ true → SameRows s g (rows g l) v) → (p z : ℕ)
-      → answerReply (answered true true (hasRow s g p z) block (rowIn s g l p z))
+      → answerReply (answered true true (hasRow s g p z) block (rowValue s g l p z))
       ≡ cond (ltb p s && ltb z g) (cond block (value (v p z)) (refusal 43)) (refusal 44)
-  unfolding hasRow rowIn
+  unfolding hasRow rowValue
   row-reply v same p z = go (ltb p s && ltb z g) refl block refl
     where
       go : (t : Bool) → (ltb p s && ltb z g) ≡ t → (k : Bool) → block ≡ k

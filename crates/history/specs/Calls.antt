@@ -24,7 +24,7 @@ pub data Reply : Type 0 where
   value : (n : ℕ) → Reply
   refused : (number place : ℕ) (shortfall : ℤ) → Reply
 
--- A refusal from 40 up: its place is 0.
+-- A refusal at place 0 that misses no inequality, as all from 40 up are.
 abbrev pub refusal : ℕ → Reply
 refusal n = refused n 0 (pos 0)
 

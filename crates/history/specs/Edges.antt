@@ -29,16 +29,22 @@ AllReplied past (e ∷ es) = (plain (pairOf past) (e .call) ≡ e .reply) × All
 abbrev pub Replied : List Event → Type 0
 Replied es = replies Filing.cleared (map callOf es) ≡ map replyDue es
 
--- Deliveries for W: the uppers alone, and with mean steps.
+-- Deliveries for W: the uppers alone, with the last one open; with lowers; with mean steps.
+abbrev pub wUppersWith : ℕ → List ℕ
+wUppersWith u = line 85 0 0 0 655360 ++ (line 85 0 0 1 524288 ++ (line 85 1 0 0 0 ++ line 85 1 0 1 u))
+
 abbrev pub wUppers : List ℕ
-wUppers = line 85 0 0 0 655360 ++ (line 85 0 0 1 524288 ++ (line 85 1 0 0 0 ++ line 85 1 0 1 1179648))
+wUppers = wUppersWith 1179648
+
+abbrev pub wLowers : List ℕ
+wLowers = wUppers ++ (line 76 0 0 0 524288 ++ (line 76 0 0 1 393216 ++ (line 76 1 0 0 0 ++ line 76 1 0 1 1048576)))
 
 abbrev pub wMeans : List ℕ
 wMeans = wUppers ++ (line 82 0 0 0 512 ++ line 82 1 0 0 256)
 
 -- Nothing is held: 40, whatever is filed or asked.
-abbrev pub nothingHeld : List Event
-nothingHeld =
+abbrev pub emptyExchanges : List Event
+emptyExchanges =
     due clear cleared
     ∷ due (fileDelivery []) (refusal 40)
     ∷ due (upper 0 0 0) (refusal 40)
@@ -51,13 +57,13 @@ nothingHeld =
     ∷ []
 
 -- A model alone: 41 before the file is read, 42 before 44; live marks get 44 only.
-abbrev pub modelHeld : List Event
-modelHeld =
+abbrev pub modelExchanges : List Event
+modelExchanges =
     due (fileModel wFile) accepted
     ∷ due (fileModel []) (refusal 41)
     ∷ due (fileModel (oneRule 65536)) (refusal 41)
     ∷ due (fileDelivery []) (refusal 20)
-    ∷ due (upper 0 0 0) (refusal 42)
+    ∷ due (upper 9 9 9) (refusal 42)
     ∷ due (lower 9 9 9) (refusal 42)
     ∷ due (meanSteps 9 9) (refusal 42)
     ∷ due margin (refusal 42)
@@ -68,9 +74,9 @@ modelHeld =
     ∷ due (live 1 0 1) (value 1)
     ∷ []
 
--- Uppers alone: 44 before 43, 43 for lowers, margin and mean steps.
-abbrev pub uppersHeld : List Event
-uppersHeld =
+-- Uppers alone: 44 before 43, 43 for lowers, margin and mean steps. A delivery is new where any upper differs, the last too.
+abbrev pub upperExchanges : List Event
+upperExchanges =
     due (fileModel wFile) accepted
     ∷ due (fileDelivery wUppers) new
     ∷ due (fileDelivery wUppers) known
@@ -80,13 +86,29 @@ uppersHeld =
     ∷ due (lower 0 0 2) (refusal 44)
     ∷ due (lower 0 0 1) (refusal 43)
     ∷ due (meanSteps 0 1) (refusal 44)
+    ∷ due (meanSteps 2 0) (refusal 44)
     ∷ due (meanSteps 0 0) (refusal 43)
     ∷ due margin (refusal 43)
+    ∷ due (live 1 0 1) (value 1)
+    ∷ due (fileDelivery (wUppersWith 1179647)) new
+    ∷ due (upper 1 0 1) (value 1179647)
+    ∷ due (fileDelivery wUppers) new
+    ∷ []
+
+-- The same uppers with lowers are known; mean steps get 43.
+abbrev pub lowerExchanges : List Event
+lowerExchanges =
+    due (fileModel wFile) accepted
+    ∷ due (fileDelivery wUppers) new
+    ∷ due (fileDelivery wLowers) known
+    ∷ due (lower 0 0 1) (value 393216)
+    ∷ due margin (value 45875)
+    ∷ due (meanSteps 0 0) (refusal 43)
     ∷ []
 
 -- The same uppers with mean steps are known; lowers and the margin get 43.
-abbrev pub meansHeld : List Event
-meansHeld =
+abbrev pub meanExchanges : List Event
+meanExchanges =
     due (fileModel wFile) accepted
     ∷ due (fileDelivery wUppers) new
     ∷ due (fileDelivery wMeans) known
@@ -97,11 +119,12 @@ meansHeld =
     ∷ []
 
 -- All blocks; a refused delivery changes nothing; another upper is new; the former model's delivery is gone after a clearing.
-abbrev pub allHeld : List Event
-allHeld =
+abbrev pub allExchanges : List Event
+allExchanges =
     due (fileModel wFile) accepted
     ∷ due (fileDelivery (wDelivery 524288 512)) new
     ∷ due (fileDelivery (wDelivery 466033 512)) (refused 24 1 (negsuc 30064771071))
+    ∷ due (fileModel []) (refusal 41)
     ∷ due margin (value 45875)
     ∷ due (lower 0 0 1) (value 393216)
     ∷ due (upper 0 0 1) (value 524288)

@@ -2,7 +2,7 @@
 use Prim.Native.Nat.{ℕ, _+_, _-_, _*_, _^_, _≤_}
 use mathlib.Core.Bool.{true}
 use mathlib.Core.List.{List, []}
-use mathlib.Core.Logic.{_↔_}
+use mathlib.Core.Logic.{_↔_, _⊎_}
 use mathlib.Core.Option.{none, some}
 use mathlib.Core.Path.{_≡_}
 use lib.IntN.{ℤ}
@@ -82,3 +82,8 @@ abbrev pub LiveShown : List Call → Type 0
 LiveShown cs =
     (p z q a : ℕ) → replyTo cs (live p z q) ≡ value a
     → (b : List ℕ) × Holds cs b × ((a ≡ 1) ↔ Live (rulesOf b) p z q) × (a ≤ 1)
+
+-- "A question on live marks can get 40 and 44 only."
+abbrev pub LiveRefused : List Call → Type 0
+LiveRefused cs =
+    (p z q number place : ℕ) (shortfall : ℤ) → replyTo cs (live p z q) ≡ refused number place shortfall → (number ≡ 40) ⊎ (number ≡ 44)

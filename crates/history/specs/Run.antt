@@ -10,7 +10,7 @@ use Rattle.register.specs.declared.answer.Mark.{Mark}
 use Rattle.register.specs.declared.answer.Mark.the-variants as Marks
 use Rattle.register.specs.declared.answer.Answer.{Answer}
 use Rattle.register.specs.declared.answer.Answer.the-variants as Answers
-use Rattle.register.specs.Filing as Register
+use Rattle.register.specs.Filing as Filing
 use Rattle.register.specs.Questions.{upperIn, lowerIn, meanIn, marginIn, liveIn}
 use Rattle.history.specs.Calls.{Call, clear, fileModel, fileDelivery, upper, lower, meanSteps, margin, live, Reply, cleared, accepted, known, new, value, refused}
 use Rattle.history.specs.Plain.{Event, Pair}
@@ -35,9 +35,9 @@ answerReply (Answers.Refused x i k) = refused (numberOf x) i k
 
 -- The register after a call, and the reply.
 unfoldable pub after : Register → Call → Register
-after r clear = Register.cleared
-after r (fileModel b) = Register.fileModel r b .register
-after r (fileDelivery d) = Register.fileDelivery r d .register
+after r clear = Filing.cleared
+after r (fileModel b) = Filing.fileModel r b .register
+after r (fileDelivery d) = Filing.fileDelivery r d .register
 after r (upper p z q) = r
 after r (lower p z q) = r
 after r (meanSteps p z) = r
@@ -46,8 +46,8 @@ after r (live p z q) = r
 
 unfoldable pub replyOf : Register → Call → Reply
 replyOf r clear = cleared
-replyOf r (fileModel b) = modelReply (Register.fileModel r b .outcome)
-replyOf r (fileDelivery d) = deliveryReply (Register.fileDelivery r d .outcome) (Register.fileDelivery r d .mark)
+replyOf r (fileModel b) = modelReply (Filing.fileModel r b .outcome)
+replyOf r (fileDelivery d) = deliveryReply (Filing.fileDelivery r d .outcome) (Filing.fileDelivery r d .mark)
 replyOf r (upper p z q) = answerReply (upperIn r p z q)
 replyOf r (lower p z q) = answerReply (lowerIn r p z q)
 replyOf r (meanSteps p z) = answerReply (meanIn r p z)
@@ -56,7 +56,7 @@ replyOf r (live p z q) = answerReply (liveIn r p z q)
 
 -- The register after a list of calls, latest first, from an empty one; its history; and its reply to one call more.
 unfoldable pub registerAfter : List Call → Register
-registerAfter [] = Register.cleared
+registerAfter [] = Filing.cleared
 registerAfter (c ∷ cs) = after (registerAfter cs) c
 
 abbrev pub replyTo : List Call → Call → Reply
@@ -73,9 +73,9 @@ replies r (c ∷ cs) = replyOf r c ∷ replies (after r c) cs
 
 -- The register that holds a pair of files.
 abbrev pub holding : Option (List ℕ) → Option (List ℕ) → Register
-holding none d = Register.cleared
-holding (some b) none = Register.withModel b
-holding (some b) (some d) = Register.received (Register.withModel b) b (Register.shapeFor b d) d .register
+holding none d = Filing.cleared
+holding (some b) none = Filing.withModel b
+holding (some b) (some d) = Filing.received (Filing.withModel b) b (Filing.shapeFor b d) d .register
 
 unfoldable pub registerOf : Pair → Register
 registerOf x = holding (x .model) (x .delivery)

@@ -1,8 +1,9 @@
--- The offending record in cases, by document 01's numbers: a model of two whole records and five bytes, a delivery of two and four.
+-- The offending record and the next record in cases, by document 01's numbers: a model of two whole records and five bytes, a delivery of two and four.
 use Prim.Native.Nat.{ℕ}
-use mathlib.Core.List.{List, [], _∷_}
+use mathlib.Core.List.{List, [], _∷_, map}
 use lib.ListN.{replicate}
-use Rattle.lent.specs.Parts.{part, nothing, Offending, inModel, inDelivery, offendingPart}
+use Rattle.lent.specs.declared.record.Kind.the-variants.{Model, Delivery}
+use Rattle.lent.specs.Parts.{part, nothing, nextAfter, Offending, inModel, inDelivery, offendingPart}
 
 -- A refusal's number and place, and the part that is due.
 pub record Case : Type 0 where
@@ -45,3 +46,10 @@ cases =
     ∷ case 40 0 (inDelivery nothing)
     ∷ case 44 0 (inDelivery nothing)
     ∷ []
+
+-- The numbers after record 0, 1, 2 and 3 of a model of 25 bytes and of a delivery of 20: a walk stays at its end.
+abbrev pub modelWalk : List ℕ
+modelWalk = map (nextAfter Model (replicate 25 0)) (0 ∷ 1 ∷ 2 ∷ 3 ∷ [])
+
+abbrev pub deliveryWalk : List ℕ
+deliveryWalk = map (nextAfter Delivery (replicate 20 0)) (0 ∷ 1 ∷ 2 ∷ 3 ∷ [])

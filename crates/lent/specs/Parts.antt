@@ -69,5 +69,5 @@ offendingPart n i b d =
 
 -- Bytes that lie where that part of the model, or of the delivery, does.
 abbrev pub LyingIn : {A : Type 0} → Offending → A → ℕ → List ℕ → A → ℕ → List ℕ → A → ℕ → List ℕ → Type 0
-LyingIn (inModel x) block offset bytes block′ offset′ bytes′ = Lying block offset bytes x
-LyingIn (inDelivery x) block offset bytes block′ offset′ bytes′ = Lying block′ offset′ bytes′ x
+LyingIn (inModel x) mBlock mOffset model dBlock dOffset delivery = Lying mBlock mOffset model x
+LyingIn (inDelivery x) mBlock mOffset model dBlock dOffset delivery = Lying dBlock dOffset delivery x

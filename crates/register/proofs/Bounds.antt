@@ -9,7 +9,7 @@ use mathlib.Core.Path.{_≡_}
 use lib.Dec.{ltb}
 use Rattle.outcome.proofs.Exactly.{lt-exactly, both}
 use Rattle.ppda.specs.Equations.{entries, rows}
-use Rattle.register.specs.Questions.{hasRow, hasEntry, rowIn, entryIn}
+use Rattle.register.specs.Questions.{hasRow, hasEntry, rowValue, entryValue}
 
 row-exactly : (s g p z : ℕ) → (hasRow s g p z ≡ true) ↔ ((p < s) × (z < g))
 unfolding hasRow
@@ -34,18 +34,18 @@ entry-bounded s g p z q has hs hg =
     (row, place-bounded 65536 s (p * g + z) q row (h .1) hs)
 
 -- The number of a row or of an entry, by whether the model has it.
-pub no-row : (s g : ℕ) (l : List ℕ) (p z : ℕ) → hasRow s g p z ≡ false → rowIn s g l p z ≡ 0
-unfolding rowIn
+pub no-row : (s g : ℕ) (l : List ℕ) (p z : ℕ) → hasRow s g p z ≡ false → rowValue s g l p z ≡ 0
+unfolding rowValue
 no-row s g l p z e = rw e
 
-pub row-there : (s g : ℕ) (l : List ℕ) (p z : ℕ) → hasRow s g p z ≡ true → rowIn s g l p z ≡ rows g l p z
-unfolding rowIn
+pub row-there : (s g : ℕ) (l : List ℕ) (p z : ℕ) → hasRow s g p z ≡ true → rowValue s g l p z ≡ rows g l p z
+unfolding rowValue
 row-there s g l p z e = rw e
 
-pub no-entry : (s g : ℕ) (l : List ℕ) (p z q : ℕ) → hasEntry s g p z q ≡ false → entryIn s g l p z q ≡ 0
-unfolding entryIn
+pub no-entry : (s g : ℕ) (l : List ℕ) (p z q : ℕ) → hasEntry s g p z q ≡ false → entryValue s g l p z q ≡ 0
+unfolding entryValue
 no-entry s g l p z q e = rw e
 
-pub entry-there : (s g : ℕ) (l : List ℕ) (p z q : ℕ) → hasEntry s g p z q ≡ true → entryIn s g l p z q ≡ entries s g l p z q
-unfolding entryIn
+pub entry-there : (s g : ℕ) (l : List ℕ) (p z q : ℕ) → hasEntry s g p z q ≡ true → entryValue s g l p z q ≡ entries s g l p z q
+unfolding entryValue
 entry-there s g l p z q e = rw e

@@ -17,8 +17,7 @@ use Rattle.model.specs.Records.{statesOf, symbolsOf}
 use Rattle.model.specs.Verdict.{modelVerdict}
 use Rattle.model.proofs.Accepted.{model-accepted}
 use Rattle.delivery.specs.declared.shape.Shape.{Shape}
-use Rattle.delivery.specs.declared.shape.Shape.the-variants.{U}
-use Rattle.delivery.specs.declared.shape.Shaped.the-variants.{Of, Unknown}
+use Rattle.delivery.specs.declared.shape.Shaped.the-variants.{Of}
 use Rattle.delivery.specs.Shapes.{entriesIn, hasLowers, hasMeans, shapeOf}
 use Rattle.delivery.specs.Numbers.{lowersOf, meansOf}
 use Rattle.delivery.specs.Walks.{Values}
@@ -36,7 +35,7 @@ use Rattle.register.specs.declared.Register.{Register}
 use Rattle.register.specs.declared.Filed.{Filed}
 use Rattle.register.specs.declared.Received.{Received}
 use Rattle.register.specs.Held.{filled, listed, listedRows, ifStanding, modelHeld, numbersHeld, noNumbers, holdsModel, isHeld}
-use Rattle.register.specs.Filing.{fileOf, withModel, turnedDown, modelBy, fileModel, turnedAway, deliveryBy, shapeFor, sameTo, markBy, fileDelivery}
+use Rattle.register.specs.Filing.{fileOf, withModel, turnedDown, modelBy, fileModel, turnedAway, deliveryBy, shapeAs, shapeFor, sameTo, markBy, fileDelivery}
 use Rattle.register.proofs.Lists.{live-listed}
 use Rattle.register.proofs.Blocks.{uppers-listed}
 
@@ -59,20 +58,12 @@ held-fits n holds = leb-true n 10240 (and-eq-true-iff (ltb 0 n) (leb n 10240) .0
 -- ---- an accepted delivery
 
 module _ (b d : List ℕ) {s g : ℕ} (states : s ≡ statesOf b) (symbols : g ≡ symbolsOf b) where
-  pub shape-found : {h : Shape} → shapeOf s g d ≡ Of h → h ≡ shapeFor b d
-  unfolding shapeFor
-  shape-found shape = rw (← states, ← symbols, shape)
-
-  pub shape-unfound : shapeOf s g d ≡ Unknown → U ≡ shapeFor b d
-  unfolding shapeFor
-  shape-unfound shape = rw (← states, ← symbols, shape)
-
   -- An accepted delivery has its shape.
-  pub shape-by-verdict : {h : Shape} → verdict b d ≡ Accepted → h ≡ shapeFor b d → shapeOf s g d ≡ Of h
-  unfolding shapeFor
+  pub shape-by-verdict : {h : Shape} → verdict b d ≡ Accepted → h ≡ shapeAs (shapeOf s g d) → shapeOf s g d ≡ Of h
   shape-by-verdict accepted is =
-      let shape = delivery-accepted b d .0 accepted .delivery .shape in
-      rw (states, symbols, is, shape)
+      let filed = delivery-accepted b d .0 accepted in
+      let shape : shapeOf s g d ≡ Of (filed .shaped) = rw (states, symbols) (filed .delivery .shape) in
+      rw (is, shape)
 
   pub numbers-are : (h : Shape) {u l r : List ℕ} {n m : ℕ} → n ≡ entriesIn s g → Values d n u
       → l ≡ ifStanding (hasLowers h) (listed s g (lowersOf s g d))
@@ -132,12 +123,12 @@ module _ (r : Register) (d : List ℕ) {o : Outcome} where
     delivery-turned-away e = rw (holds, ← found) (delivery-by o r _ d e)
 
     pub delivery-filed : {h : Shape} {n : Numbers} {s g v : ℕ} {t : Bool} {m : Mark} → isRefused o ≡ false
-        → h ≡ shapeFor (take (r .model .length) (r .model .bytes)) d
+        → h ≡ shapeAs (shapeOf s g d)
         → n ≡ numbersHeld (take (r .model .length) (r .model .bytes)) h d
         → s ≡ statesOf (take (r .model .length) (r .model .bytes)) → g ≡ symbolsOf (take (r .model .length) (r .model .bytes))
         → v ≡ entriesIn s g → t ≡ isHeld (r .delivery) → m ≡ markBy t v (r .numbers) n
         → _≡_ {A = Received}
         (record { register = record { model = r .model; delivery = Held.Of h; numbers = n }; outcome = o; mark = m }) (fileDelivery r d)
-    unfolding fileDelivery fileOf
+    unfolding fileDelivery fileOf shapeFor
     delivery-filed e shape numbers states symbols entries another mark =
-        rw (holds, ← found, not-refused o e, ← shape, ← numbers, ← states, ← symbols, ← entries, ← another, ← mark)
+        rw (holds, ← found, not-refused o e, ← states, ← symbols, ← shape, ← numbers, ← entries, ← another, ← mark)

@@ -65,7 +65,7 @@ numbersHeld b h d =
       margin = cond (hasLowers h) (marginOf b d) 0;
     }
 
--- A model is held where its file has a length that can be accepted.
+-- A model is held where its file has 1 to 10,240 bytes.
 unfoldable pub holdsModel : ℕ → Bool
 holdsModel n = ltb 0 n && leb n 10240
 

@@ -27,28 +27,28 @@ hasRow s g p z = ltb p s && ltb z g
 unfoldable pub hasEntry : ℕ → ℕ → ℕ → ℕ → ℕ → Bool
 hasEntry s g p z q = hasRow s g p z && ltb q s
 
--- The number of a row, and of an entry, in a list in file order; 0 where the model has none such.
-unfoldable pub rowIn : ℕ → ℕ → List ℕ → ℕ → ℕ → ℕ
-rowIn s g l p z = cond (hasRow s g p z) (rows g l p z) 0
+-- What a list in file order holds for a row, and for an entry; 0 where the model has none such.
+unfoldable pub rowValue : ℕ → ℕ → List ℕ → ℕ → ℕ → ℕ
+rowValue s g l p z = cond (hasRow s g p z) (rows g l p z) 0
 
-unfoldable pub entryIn : ℕ → ℕ → List ℕ → ℕ → ℕ → ℕ → ℕ
-entryIn s g l p z q = cond (hasEntry s g p z q) (entries s g l p z q) 0
+unfoldable pub entryValue : ℕ → ℕ → List ℕ → ℕ → ℕ → ℕ → ℕ
+entryValue s g l p z q = cond (hasEntry s g p z q) (entries s g l p z q) 0
 
 -- An entry's upper, its lower, a row's mean steps, the margin, and an entry's live mark, which needs a model only.
 unfoldable pub upperIn : Register → ℕ → ℕ → ℕ → Answer
 upperIn r p z q =
     answered (holdsModel (r .model .length)) (isHeld (r .delivery)) (hasEntry (r .model .states) (r .model .symbols) p z q) true
-    (entryIn (r .model .states) (r .model .symbols) (r .numbers .uppers) p z q)
+    (entryValue (r .model .states) (r .model .symbols) (r .numbers .uppers) p z q)
 
 unfoldable pub lowerIn : Register → ℕ → ℕ → ℕ → Answer
 lowerIn r p z q =
     answered (holdsModel (r .model .length)) (isHeld (r .delivery)) (hasEntry (r .model .states) (r .model .symbols) p z q)
-    (lowersStand (r .delivery)) (entryIn (r .model .states) (r .model .symbols) (r .numbers .lowers) p z q)
+    (lowersStand (r .delivery)) (entryValue (r .model .states) (r .model .symbols) (r .numbers .lowers) p z q)
 
 unfoldable pub meanIn : Register → ℕ → ℕ → Answer
 meanIn r p z =
     answered (holdsModel (r .model .length)) (isHeld (r .delivery)) (hasRow (r .model .states) (r .model .symbols) p z)
-    (meansStand (r .delivery)) (rowIn (r .model .states) (r .model .symbols) (r .numbers .means) p z)
+    (meansStand (r .delivery)) (rowValue (r .model .states) (r .model .symbols) (r .numbers .means) p z)
 
 unfoldable pub marginIn : Register → Answer
 marginIn r = answered (holdsModel (r .model .length)) (isHeld (r .delivery)) true (lowersStand (r .delivery)) (r .numbers .margin)
@@ -56,4 +56,4 @@ marginIn r = answered (holdsModel (r .model .length)) (isHeld (r .delivery)) tru
 unfoldable pub liveIn : Register → ℕ → ℕ → ℕ → Answer
 liveIn r p z q =
     answered (holdsModel (r .model .length)) true (hasEntry (r .model .states) (r .model .symbols) p z q) true
-    (entryIn (r .model .states) (r .model .symbols) (r .model .live) p z q)
+    (entryValue (r .model .states) (r .model .symbols) (r .model .live) p z q)

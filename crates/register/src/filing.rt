@@ -30,7 +30,7 @@ ghost use Rattle.equations.specs.Held.{Sized};
 ghost use Rattle.certificate.specs.Verdict.{verdict};
 ghost use Rattle.certificate.specs.Margin.{marginOf};
 ghost use Rattle.register.specs.Held.{filled, modelHeld, numbersHeld, listed, listedRows, ifStanding};
-ghost use Rattle.register.specs.Filing.{markBy, shapeFor};
+ghost use Rattle.register.specs.Filing.{markBy, shapeAs};
 
 // The bytes of a file, in the first places.
 fn copied(file: &[u8]) -> [u8; 10240]
@@ -64,11 +64,11 @@ pub(crate) fn model_of(file: &[u8]) -> HeldModel
 }
 
 // The shape of an accepted delivery, which is never unknown.
-pub(crate) fn shape_for(model: &[u8], delivery: &[u8]) -> Shape
-    requires { ⌜ verdict (now model) (now delivery) ≡ Accepted ⌝ }
-    ensures { λ r. ⌜ r ≡ shapeFor (now (model .entry)) (now (delivery .entry)) ⌝ }
+pub(crate) fn shape_for(delivery: &[u8], s: usize, g: usize) -> Shape
+    requires { ⌜ (0 < s) × (s < 9) × (0 < g) × (g < 17) ⌝ }
+    ensures { λ r. ⌜ r ≡ shapeAs (shapeOf s g (now (delivery .entry))) ⌝ }
 {
-    match shape_of(delivery, states(model), symbols(model)) {
+    match shape_of(delivery, s, g) {
         Shaped::Of(shape) => shape,
         Shaped::Unknown => Shape::U,
     }
@@ -113,12 +113,10 @@ fn margin_or_zero(model: &[u8], delivery: &[u8], s: usize, g: usize, shape: Shap
 }
 
 // The numbers of an accepted delivery.
-pub(crate) fn numbers_of(model: &[u8], delivery: &[u8], shape: Shape) -> Numbers
-    requires { ⌜ (verdict (now model) (now delivery) ≡ Accepted) × (shape ≡ shapeFor (now model) (now delivery)) ⌝ }
+pub(crate) fn numbers_of(model: &[u8], delivery: &[u8], s: usize, g: usize, shape: Shape) -> Numbers
+    requires { ⌜ Sized (now model) s g × (shapeOf s g (now delivery) ≡ Of shape) × (verdict (now model) (now delivery) ≡ Accepted) ⌝ }
     ensures { λ r. ⌜ r ≡ numbersHeld (now (model .entry)) shape (now (delivery .entry)) ⌝ }
 {
-    let s = states(model);
-    let g = symbols(model);
     Numbers {
         uppers: values(delivery, entries(s, g)),
         lowers: lowers_of(delivery, s, g, shape),

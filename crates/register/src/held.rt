@@ -5,7 +5,8 @@ use delivery::shape::Shape;
 ghost use mathlib.Core.Path.{_≡_};
 ghost use Rattle.register.specs.Held.{isHeld, lowersStand, meansStand, holdsModel, noModel, noNumbers};
 
-// A held model: its file's bytes in the first `length` places, and what is worked out from them once. No model is held where the length is 0.
+// A held model: its file's bytes in the first `length` places, and what is worked out from them once. No model is held where the length is 0
+// (or above 10,240, which no call makes).
 pub struct HeldModel {
     pub(crate) bytes: [u8; 10240],
     pub(crate) length: usize,
@@ -14,7 +15,7 @@ pub struct HeldModel {
     pub(crate) live: [u32; 1024],
 }
 
-// A held delivery is one of the four shapes.
+// What is held of deliveries: none, or one of the four shapes.
 pub enum HeldDelivery {
     Nothing,
     Of(Shape),

@@ -23,10 +23,10 @@ use outcome::Outcome;
 use outcome::Reason;
 use outcome::is_refused;
 use outcome::refused;
-use places::entry_in;
+use places::entry_value;
 use places::has_entry;
 use places::has_row;
-use places::row_in;
+use places::row_value;
 
 pub mod answer; // answer.rt: what the calls answer
 mod filing; // filing.rt: what an accepted file becomes in the register
@@ -134,10 +134,11 @@ impl Register {
         if is_refused(verdict) {
             return delivery_refused(self, verdict);
         }
-        let shape = shape_for(model, file);
-        let numbers = numbers_of(model, file, shape);
-        let n = entries(states(model), symbols(model));
-        let mark = mark_by(another, n, former, numbers);
+        let s = states(model);
+        let g = symbols(model);
+        let shape = shape_for(file, s, g);
+        let numbers = numbers_of(model, file, s, g, shape);
+        let mark = mark_by(another, entries(s, g), former, numbers);
         Received {
             register: Register {
                 model: held,
@@ -156,7 +157,7 @@ impl Register {
         let s = self.model.states;
         let g = self.model.symbols;
         let uppers = self.numbers.uppers;
-        let value = entry_in(&uppers, s, g, p, z, q);
+        let value = entry_value(&uppers, s, g, p, z, q);
         let length = self.model.length;
         let delivery = self.delivery;
         answered(
@@ -175,7 +176,7 @@ impl Register {
         let s = self.model.states;
         let g = self.model.symbols;
         let lowers = self.numbers.lowers;
-        let value = entry_in(&lowers, s, g, p, z, q);
+        let value = entry_value(&lowers, s, g, p, z, q);
         let length = self.model.length;
         let delivery = self.delivery;
         answered(
@@ -194,7 +195,7 @@ impl Register {
         let s = self.model.states;
         let g = self.model.symbols;
         let means = self.numbers.means;
-        let value = row_in(&means, s, g, p, z);
+        let value = row_value(&means, s, g, p, z);
         let length = self.model.length;
         let delivery = self.delivery;
         answered(
@@ -229,7 +230,7 @@ impl Register {
         let s = self.model.states;
         let g = self.model.symbols;
         let marks = self.model.live;
-        let value = entry_in(&marks, s, g, p, z, q);
+        let value = entry_value(&marks, s, g, p, z, q);
         let length = self.model.length;
         answered(
             holds_model(length),

@@ -3,7 +3,7 @@
 ghost use mathlib.Core.Path.{_≡_};
 ghost use Prim.Native.Nat.{_<_};
 ghost use lib.ListN.{getD};
-ghost use Rattle.register.specs.Questions.{hasRow, hasEntry, entryIn, rowIn};
+ghost use Rattle.register.specs.Questions.{hasRow, hasEntry, entryValue, rowValue};
 
 // A byte as an index.
 fn index_of(byte: u8) -> usize
@@ -41,8 +41,8 @@ pub(crate) fn has_entry(s: u8, g: u8, p: usize, z: usize, q: usize) -> bool
 }
 
 // The held number of a row: 0 where there is no such row.
-pub(crate) fn row_in(list: &[u32; 1024], s: u8, g: u8, p: usize, z: usize) -> u64
-    ensures { λ r. ⌜ r ≡ rowIn s g (now (list .entry)) p z ⌝ }
+pub(crate) fn row_value(list: &[u32; 1024], s: u8, g: u8, p: usize, z: usize) -> u64
+    ensures { λ r. ⌜ r ≡ rowValue s g (now (list .entry)) p z ⌝ }
 {
     if !has_row(s, g, p, z) {
         return 0;
@@ -51,8 +51,8 @@ pub(crate) fn row_in(list: &[u32; 1024], s: u8, g: u8, p: usize, z: usize) -> u6
 }
 
 // The held number of an entry: 0 where there is no such entry.
-pub(crate) fn entry_in(list: &[u32; 1024], s: u8, g: u8, p: usize, z: usize, q: usize) -> u64
-    ensures { λ r. ⌜ r ≡ entryIn s g (now (list .entry)) p z q ⌝ }
+pub(crate) fn entry_value(list: &[u32; 1024], s: u8, g: u8, p: usize, z: usize, q: usize) -> u64
+    ensures { λ r. ⌜ r ≡ entryValue s g (now (list .entry)) p z q ⌝ }
 {
     if !has_entry(s, g, p, z, q) {
         return 0;

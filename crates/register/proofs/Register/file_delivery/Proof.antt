@@ -10,10 +10,11 @@ use borrow.Author.Tests.{not-true, not-false}
 use borrow.Author.Needs.{needs}
 use Rattle.outcome.specs.declared.Outcome.the-variants.{Accepted}
 use Rattle.outcome.proofs.Tests.{not-refused}
+use Rattle.equations.specs.Held.{Sized}
 use Rattle.certificate.specs.Verdict.{verdict}
-use Rattle.certificate.proofs.Steps.{few, sized-by-verdict}
+use Rattle.certificate.proofs.Steps.{few, some-and-few, sized-by-verdict}
 use Rattle.register.specs.Held.{holdsModel}
-use Rattle.register.proofs.Steps.{held-fits, none-is-held, delivery-turned-away, delivery-filed}
+use Rattle.register.proofs.Steps.{held-fits, shape-by-verdict, none-is-held, delivery-turned-away, delivery-filed}
 use Rattle.register.proofs.Register.file_delivery.Statement.{statement}
 use Rattle.register.proofs.Register.file_delivery.Tie as tie
 
@@ -33,6 +34,10 @@ accepted : (c : tie.Else2) → let args = c .before .before .before .before .bef
 accepted c =
     let tested = c .before in
     sym (tested .before .check .ensures) ∙ not-refused _ (sym (tested .is-refused .ensures) ∙ c .if2 .left)
+
+sized : (c : tie.After-symbols) → let args = c .before .before .before .before .before .before .before .before .before .before .before .before .before .args in
+    Sized (take (args .self .model .length) (args .self .model .bytes)) (c .before .states .result) (c .symbols .result)
+sized c = sized-by-verdict _ (accepted (c .before .before)) (c .before .states .ensures .0) (c .symbols .ensures .0)
 
 holds-model-requires : tie.Need-holds-model-requires
 holds-model-requires c κs = search needs
@@ -75,21 +80,23 @@ returns-2 c =
     ∙ delivery-turned-away _ _ (holds (found .before .before .before .before .before)) (found .check .ensures)
     (sym (tested .is-refused .ensures) ∙ c .before .if2 .taken)
 
-shape-for-requires : tie.Need-shape-for-requires
-shape-for-requires c κs = accepted c
-
-numbers-of-requires : tie.Need-numbers-of-requires
-numbers-of-requires c κs = (accepted (c .before), c .shape-for .ensures)
-
 states-requires : tie.Need-states-requires
 states-requires c κs = search needs
 
 symbols-requires : tie.Need-symbols-requires
 symbols-requires c κs = search needs
 
+shape-for-requires : tie.Need-shape-for-requires
+shape-for-requires c κs = some-and-few (sized c)
+
+numbers-of-requires : tie.Need-numbers-of-requires
+numbers-of-requires c κs =
+    let sizes = c .before in
+    let is = accepted (sizes .before .before) in
+    (sized sizes, shape-by-verdict _ _ (sizes .before .states .ensures .0) (sizes .symbols .ensures .0) is (c .shape-for .ensures), is)
+
 entries-requires : tie.Need-entries-requires
-entries-requires c κs =
-    few (sized-by-verdict _ (accepted (c .before .before .before .before)) (c .before .states .ensures .0) (c .symbols .ensures .0))
+entries-requires c κs = few (sized (c .before .before))
 
 mark-by-requires : tie.Need-mark-by-requires
 mark-by-requires c κs = search needs
@@ -97,13 +104,15 @@ mark-by-requires c κs = search needs
 returns-3 : tie.Need-returns-3
 returns-3 c =
     let entries = c .before in
-    let shape = entries .before .before .before .before in
-    let tested = shape .before .before in
+    let shape = entries .before .before in
+    let sizes = shape .before in
+    let branch = sizes .before .before in
+    let tested = branch .before in
     let found = tested .before in
     delivery-filed _ _ (holds (found .before .before .before .before .before)) (found .check .ensures)
-    (sym (tested .is-refused .ensures) ∙ shape .before .if2 .left)
-    (shape .shape-for .ensures) (entries .before .before .before .numbers-of .ensures)
-    (entries .before .before .states .ensures .0) (entries .before .symbols .ensures .0) (entries .entries .ensures .0)
+    (sym (tested .is-refused .ensures) ∙ branch .if2 .left)
+    (shape .shape-for .ensures) (entries .before .numbers-of .ensures)
+    (sizes .before .states .ensures .0) (sizes .symbols .ensures .0) (entries .entries .ensures .0)
     (found .before .before .is-held .ensures) (c .mark-by .ensures)
 
 pub file-delivery-spec : {M : Type 1} → statement M
@@ -121,10 +130,10 @@ file-delivery-spec =
     is-refused-requires
     delivery-refused-requires-2
     returns-2
-    shape-for-requires
-    numbers-of-requires
     states-requires
     symbols-requires
+    shape-for-requires
+    numbers-of-requires
     entries-requires
     mark-by-requires
     returns-3)

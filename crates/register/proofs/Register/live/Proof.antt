@@ -4,8 +4,8 @@ use Rattle.register.specs.Questions.{liveIn}
 use Rattle.register.proofs.Register.live.Statement.{statement}
 use Rattle.register.proofs.Register.live.Tie as tie
 
-entry-in-requires : tie.Need-entry-in-requires
-entry-in-requires c κs = search needs
+entry-value-requires : tie.Need-entry-value-requires
+entry-value-requires c κs = search needs
 
 holds-model-requires : tie.Need-holds-model-requires
 holds-model-requires c κs = search needs
@@ -23,4 +23,4 @@ returns c = cc
 pub live-spec : {M : Type 1} → statement M
 live-spec =
     tie.close
-    (tie.spec entry-in-requires holds-model-requires has-entry-requires answered-requires returns)
+    (tie.spec entry-value-requires holds-model-requires has-entry-requires answered-requires returns)

@@ -4,8 +4,8 @@ use Rattle.register.specs.Questions.{meanIn}
 use Rattle.register.proofs.Register.mean_steps.Statement.{statement}
 use Rattle.register.proofs.Register.mean_steps.Tie as tie
 
-row-in-requires : tie.Need-row-in-requires
-row-in-requires c κs = search needs
+row-value-requires : tie.Need-row-value-requires
+row-value-requires c κs = search needs
 
 holds-model-requires : tie.Need-holds-model-requires
 holds-model-requires c κs = search needs
@@ -30,7 +30,7 @@ pub mean-steps-spec : {M : Type 1} → statement M
 mean-steps-spec =
     tie.close
     (tie.spec
-    row-in-requires
+    row-value-requires
     holds-model-requires
     is-held-requires
     has-row-requires

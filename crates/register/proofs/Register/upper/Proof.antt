@@ -4,8 +4,8 @@ use Rattle.register.specs.Questions.{upperIn}
 use Rattle.register.proofs.Register.upper.Statement.{statement}
 use Rattle.register.proofs.Register.upper.Tie as tie
 
-entry-in-requires : tie.Need-entry-in-requires
-entry-in-requires c κs = search needs
+entry-value-requires : tie.Need-entry-value-requires
+entry-value-requires c κs = search needs
 
 holds-model-requires : tie.Need-holds-model-requires
 holds-model-requires c κs = search needs
@@ -27,7 +27,7 @@ pub upper-spec : {M : Type 1} → statement M
 upper-spec =
     tie.close
     (tie.spec
-    entry-in-requires
+    entry-value-requires
     holds-model-requires
     is-held-requires
     has-entry-requires

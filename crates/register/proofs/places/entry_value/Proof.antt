@@ -1,4 +1,4 @@
--- `entry_in`: 0 where the model has no such entry, and else the number at the entry's place, whose sum fits.
+-- `entry_value`: 0 where the model has no such entry, and else the number at the entry's place, whose sum fits.
 use Prim.Native.Nat.{_+_, _*_, _<_}
 use native.Mathlib.Omega.{arith}
 use mathlib.Core.Bool.{true}
@@ -7,8 +7,8 @@ use borrow.Author.Needs.{needs}
 use borrow.Author.Tests.{not-true, not-false}
 use Rattle.register.specs.Questions.{hasEntry}
 use Rattle.register.proofs.Bounds.{entry-bounded, no-entry, entry-there}
-use Rattle.register.proofs.places.entry_in.Statement.{statement}
-use Rattle.register.proofs.places.entry_in.Tie as tie
+use Rattle.register.proofs.places.entry_value.Statement.{statement}
+use Rattle.register.proofs.places.entry_value.Tie as tie
 
 there : (c : tie.Else1) → let args = c .before .before .args in hasEntry (args .s) (args .g) (args .p) (args .z) (args .q) ≡ true
 there c = sym (c .before .has-entry .ensures) ∙ not-false _ (c .if1 .left)
@@ -56,8 +56,8 @@ returns-2 c =
     ∙ rw (c .before .before .index-of .ensures .0, c .before .index-of2 .ensures .0)
     (sym (entry-there _ _ _ _ _ _ (there (c .before .before .before .before))))
 
-pub entry-in-spec : {M : Type 1} → statement M
-entry-in-spec =
+pub entry-value-spec : {M : Type 1} → statement M
+entry-value-spec =
     tie.close
     (tie.spec
     has-entry-requires

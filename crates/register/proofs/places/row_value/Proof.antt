@@ -1,4 +1,4 @@
--- `row_in`: 0 where the model has no such row, and else the number at the row's place, whose sum fits.
+-- `row_value`: 0 where the model has no such row, and else the number at the row's place, whose sum fits.
 use Prim.Native.Nat.{_+_, _*_, _<_}
 use mathlib.Core.Bool.{true}
 use mathlib.Core.Path.{_≡_, sym, _∙_}
@@ -7,8 +7,8 @@ use borrow.Author.Needs.{needs}
 use borrow.Author.Tests.{not-true, not-false}
 use Rattle.register.specs.Questions.{hasRow}
 use Rattle.register.proofs.Bounds.{row-bounded, no-row, row-there}
-use Rattle.register.proofs.places.row_in.Statement.{statement}
-use Rattle.register.proofs.places.row_in.Tie as tie
+use Rattle.register.proofs.places.row_value.Statement.{statement}
+use Rattle.register.proofs.places.row_value.Tie as tie
 
 there : (c : tie.Else1) → let args = c .before .before .args in hasRow (args .s) (args .g) (args .p) (args .z) ≡ true
 there c = sym (c .before .has-row .ensures) ∙ not-false _ (c .if1 .left)
@@ -39,8 +39,8 @@ returns-2 : tie.Need-returns-2
 returns-2 c =
     c .number-at .ensures ∙ rw (c .before .index-of .ensures .0) (sym (row-there _ _ _ _ _ (there (c .before .before .before))))
 
-pub row-in-spec : {M : Type 1} → statement M
-row-in-spec =
+pub row-value-spec : {M : Type 1} → statement M
+row-value-spec =
     tie.close
     (tie.spec
     has-row-requires
