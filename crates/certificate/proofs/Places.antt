@@ -1,111 +1,150 @@
--- The place of a refused delivery is below 65,536: that of a refused model is, and beside a model that passes a delivery has at most 2,176
--- records.
-use Prim.Native.Nat.{ℕ, _+_, _≤_, _<_}
+-- The place of a refused delivery: where the reason names a record of the model, 11 to 14, or of the delivery, 21 to 27, it is a whole
+-- record of that file. It is below 65,536 in any case: that of a refused model is, and beside a model that passes a delivery has at most
+-- 2,176 records.
+use Prim.Native.Nat.{ℕ, _+_, _/_, _≤_, _<_}
 use native.Mathlib.Omega.{arith}
-use mathlib.Core.Bool.{Bool, true, false, cond}
+use mathlib.Core.Bool.{Bool, true, false}
 use mathlib.Core.List.{List, [], _∷_, _++_}
-use mathlib.Core.Path.{_≡_}
+use mathlib.Core.Path.{_≡_, refl}
 use lib.IntN.{ℤ}
+use lib.ListN.{length}
 use Rattle.outcome.specs.declared.Reason.{Reason}
-use Rattle.outcome.specs.declared.Outcome.the-variants.{Accepted, Refused}
+use Rattle.outcome.specs.declared.Outcome.the-variants.{Refused}
+use Rattle.outcome.specs.Reasons.{numberOf}
 use Rattle.outcome.specs.Tests.{Test}
-use Rattle.outcome.proofs.Tests.{PlacesBelow, places-none, places-cons, places-append, places-each}
+use Rattle.outcome.proofs.Tests.{Refusals, refusals-none, refusals-cons, refusals-append, refusals-each, refusals-weaken}
 use Rattle.ppda.proofs.Places.{row-below, entry-below, rows-most, entries-most}
-use Rattle.model.specs.Records.{statesOf, symbolsOf}
+use Rattle.model.specs.Records.{recordsOf, statesOf, symbolsOf}
 use Rattle.model.proofs.Records.{states-most, symbols-most}
-use Rattle.model.specs.Verdict.{modelVerdict}
+use Rattle.model.specs.Verdict.{modelVerdict, modelTests}
 use Rattle.model.proofs.Accepted.{model-accepted}
 use Rattle.model.proofs.Places.{model-places}
 use Rattle.delivery.specs.declared.shape.Block.{Block}
 use Rattle.delivery.specs.declared.shape.Block.the-variants.{Uppers, Lowers, Means}
 use Rattle.delivery.specs.declared.shape.Shape.{Shape}
+use Rattle.delivery.specs.declared.shape.Shape.the-variants.{U, UL, UR, ULR}
 use Rattle.delivery.specs.declared.shape.Shaped.{Shaped}
 use Rattle.delivery.specs.declared.shape.Shaped.the-variants.{Of, Unknown}
-use Rattle.delivery.specs.Shapes.{entriesIn, hasLowers, hasMeans, meansFrom}
+use Rattle.delivery.specs.Shapes.{entriesIn, hasLowers, hasMeans, meansFrom, recordsIn, shapeOf}
 use Rattle.delivery.specs.Numbers.{entryAt, rowAt}
 use Rattle.delivery.specs.Layout.{eachEntry, eachRow, onlyIf, recordTests, upperRecords, lowerRecords, meanRecords, layoutTests}
+use Rattle.delivery.proofs.Shapes.{shape-long, uppers-fit, lowers-fit, means-fit}
 use Rattle.inequalities.specs.Inequalities.{deadTest, upperTest, belowTest, lowerTest, meanTest, deadTests, upperTests, belowTests, lowerTests, meanTests}
 use Rattle.certificate.specs.Verdict.{numberTests, shapedTests, deliveryTests, verdict}
 
--- ---- lists of tests
+-- ---- the tests of a delivery that has a shape
 
-both-below : {n : ℕ} {xs ys : List Test} → PlacesBelow n xs → PlacesBelow n ys → PlacesBelow n (xs ++ ys)
-both-below f g = places-append f (λ e. g)
+-- The reason is one of 21 to 27, by its number, and the place is a whole record of the file d.
+record AtRecord (d : List ℕ) (r : Reason) (i : ℕ) : Type 0 where
+  number : 21 ≤ numberOf r
+  whole : i < length d / 8
 
-only-below : {n : ℕ} {ts : List Test} (t : Bool) → PlacesBelow n ts → PlacesBelow n (onlyIf t ts)
-only-below true f = f
-only-below false f = places-none
+both : {d : List ℕ} {xs ys : List Test} → Refusals (AtRecord d) xs → Refusals (AtRecord d) ys → Refusals (AtRecord d) (xs ++ ys)
+both f g = refusals-append f (λ e. g)
 
-entries-below : {n : ℕ} (s g : ℕ) {h : ℕ → ℕ → ℕ → List Test} → ((p z q : ℕ) → p < s → z < g → q < s → PlacesBelow n (h p z q))
-    → PlacesBelow n (eachEntry s g h)
-unfolding eachEntry
-entries-below s g f = places-each s (λ p hp. places-each g (λ z hz. places-each s (λ q hq. f p z q hp hz hq)))
+only : {d : List ℕ} {ts : List Test} (t : Bool) → (t ≡ true → Refusals (AtRecord d) ts) → Refusals (AtRecord d) (onlyIf t ts)
+only true f = f refl
+only false f = refusals-none
 
-rows-below : {n : ℕ} (s g : ℕ) {h : ℕ → ℕ → List Test} → ((p z : ℕ) → p < s → z < g → PlacesBelow n (h p z))
-    → PlacesBelow n (eachRow s g h)
-unfolding eachRow
-rows-below s g f = places-each s (λ p hp. places-each g (λ z hz. f p z hp hz))
+one : {d : List ℕ} {t : Test} → 21 ≤ numberOf (t .reason) → t .place < length d / 8 → Refusals (AtRecord d) (t ∷ [])
+one n l = refusals-cons (record { number = n; whole = l }) (λ e. refusals-none)
 
--- ---- the tests at place i
-
-one-below : {n : ℕ} {t : Test} → t .place < n → PlacesBelow n (t ∷ [])
-one-below h = places-cons h (λ e. places-none)
-
-record-below : {n : ℕ} (d : List ℕ) {i : ℕ} (k : Block) (p z q : ℕ) → i < n → PlacesBelow n (recordTests d i k p z q)
+at-record : (d : List ℕ) {i : ℕ} (k : Block) (p z q : ℕ) → i < length d / 8 → Refusals (AtRecord d) (recordTests d i k p z q)
 unfolding recordTests
-record-below d k p z q h = places-cons h (λ e. one-below h)
+at-record d k p z q l = refusals-cons (record { number = omega arith; whole = l }) (λ e. one (omega arith) l)
 
--- ---- a delivery for a model with few states and symbols
+module _ (s g : ℕ) (d : List ℕ) (h : Shape) (of : shapeOf s g d ≡ Of h) where
+  -- Tests at every record of a block.
+  at-uppers : {ts : ℕ → ℕ → ℕ → List Test} → ((p z q : ℕ) → entryAt s g p z q < length d / 8 → Refusals (AtRecord d) (ts p z q))
+      → Refusals (AtRecord d) (eachEntry s g ts)
+  unfolding eachEntry
+  at-uppers f =
+      refusals-each s (λ p hp. refusals-each g (λ z hz. refusals-each s (λ q hq.
+      f p z q (omega (arith, entry-below s g p z q hp hz hq, uppers-fit s g d h of)))))
 
-module _ (s g : ℕ) (few-states : s < 9) (few-symbols : g < 17) where
-  -- A record of the uppers, or of the lowers after them.
-  upper-place : (p z q : ℕ) → p < s → z < g → q < s → entryAt s g p z q < 65536
-  upper-place p z q hp hz hq = omega (arith, entry-below s g p z q hp hz hq, entries-most s g few-states few-symbols)
+  at-lowers : {ts : ℕ → ℕ → ℕ → List Test}
+      → ((p z q : ℕ) → entriesIn s g + entryAt s g p z q < length d / 8 → Refusals (AtRecord d) (ts p z q))
+      → Refusals (AtRecord d) (onlyIf (hasLowers h) (eachEntry s g ts))
+  unfolding eachEntry
+  at-lowers f =
+      only (hasLowers h) (λ e. refusals-each s (λ p hp. refusals-each g (λ z hz. refusals-each s (λ q hq.
+      f p z q (omega (arith, entry-below s g p z q hp hz hq, lowers-fit s g d h of e))))))
 
-  lower-place : (p z q : ℕ) → p < s → z < g → q < s → entriesIn s g + entryAt s g p z q < 65536
-  lower-place p z q hp hz hq = omega (arith, entry-below s g p z q hp hz hq, entries-most s g few-states few-symbols)
+  at-means : {ts : ℕ → ℕ → List Test} → ((p z : ℕ) → meansFrom s g h + rowAt g p z < length d / 8 → Refusals (AtRecord d) (ts p z))
+      → Refusals (AtRecord d) (onlyIf (hasMeans h) (eachRow s g ts))
+  unfolding eachRow
+  at-means f =
+      only (hasMeans h) (λ e. refusals-each s (λ p hp. refusals-each g (λ z hz.
+      f p z (omega (arith, row-below s g p z hp hz, means-fit s g d h of e)))))
 
-  -- A record of the mean steps, which start after one block or two.
-  means-start : (t : Bool) → cond t (entriesIn s g + entriesIn s g) (entriesIn s g) ≤ 2048
-  means-start true = omega (arith, entries-most s g few-states few-symbols)
-  means-start false = omega (arith, entries-most s g few-states few-symbols)
-
-  mean-place : (h : Shape) (p z : ℕ) → p < s → z < g → meansFrom s g h + rowAt g p z < 65536
-  unfolding meansFrom
-  mean-place h p z hp hz =
-      omega (arith, row-below s g p z hp hz, rows-most s g few-states few-symbols, means-start (hasLowers h))
-
-  layout-places : (h : Shape) (d : List ℕ) → PlacesBelow 65536 (layoutTests s g h d)
+  layout-places : Refusals (AtRecord d) (layoutTests s g h d)
   unfolding layoutTests upperRecords lowerRecords meanRecords
-  layout-places h d =
-      both-below (entries-below s g (λ p z q hp hz hq. record-below d Uppers p z q (upper-place p z q hp hz hq)))
-      (both-below
-      (only-below (hasLowers h) (entries-below s g (λ p z q hp hz hq. record-below d Lowers p z q (lower-place p z q hp hz hq))))
-      (only-below (hasMeans h) (rows-below s g (λ p z hp hz. record-below d Means p z 0 (mean-place h p z hp hz)))))
+  layout-places =
+      both (at-uppers (λ p z q l. at-record d Uppers p z q l))
+      (both (at-lowers (λ p z q l. at-record d Lowers p z q l))
+      (at-means (λ p z l. at-record d Means p z 0 l)))
 
-  number-places : (b : List ℕ) (h : Shape) (d : List ℕ) → PlacesBelow 65536 (numberTests b s g h d)
+  number-places : (b : List ℕ) → Refusals (AtRecord d) (numberTests b s g h d)
   unfolding numberTests deadTests deadTest upperTests upperTest belowTests belowTest lowerTests lowerTest meanTests meanTest
-  number-places b h d =
-      both-below (entries-below s g (λ p z q hp hz hq. one-below (omega (arith, upper-place p z q hp hz hq))))
-      (both-below (only-below (hasLowers h) (entries-below s g (λ p z q hp hz hq. one-below (lower-place p z q hp hz hq))))
-      (both-below (entries-below s g (λ p z q hp hz hq. one-below (upper-place p z q hp hz hq)))
-      (both-below (only-below (hasLowers h) (entries-below s g (λ p z q hp hz hq. one-below (lower-place p z q hp hz hq))))
-      (both-below (only-below (hasLowers h) (entries-below s g (λ p z q hp hz hq. one-below (lower-place p z q hp hz hq))))
-      (only-below (hasMeans h) (rows-below s g (λ p z hp hz. one-below (mean-place h p z hp hz))))))))
-
-  shaped-places : (b : List ℕ) (h : Shaped) (d : List ℕ) → PlacesBelow 65536 (shapedTests b s g h d)
-  unfolding shapedTests
-  shaped-places b Unknown d = one-below (omega arith)
-  shaped-places b (Of h) d = both-below (layout-places h d) (number-places b h d)
+  number-places b =
+      both (at-uppers (λ p z q l. one (omega arith) (omega arith)))
+      (both (at-lowers (λ p z q l. one (omega arith) l))
+      (both (at-uppers (λ p z q l. one (omega arith) l))
+      (both (at-lowers (λ p z q l. one (omega arith) l))
+      (both (at-lowers (λ p z q l. one (omega arith) l))
+      (at-means (λ p z l. one (omega arith) l))))))
 
 -- ---- the verdict
 
-delivery-places : (b d : List ℕ) → modelVerdict b ≡ Accepted → PlacesBelow 65536 (deliveryTests b d)
-unfolding deliveryTests
-delivery-places b d e =
+-- What holds of a refusal's reason and place.
+record Placed (b d : List ℕ) (r : Reason) (i : ℕ) : Type 0 where
+  small : i < 65536
+  rule : 11 ≤ numberOf r → numberOf r ≤ 14 → i < recordsOf b
+  bound : 21 ≤ numberOf r → numberOf r ≤ 27 → i < length d / 8
+
+few-records : (s g : ℕ) (h : Shape) → s < 9 → g < 17 → recordsIn s g h ≤ 2176
+unfolding recordsIn meansFrom
+few-records s g U hs hg = omega (arith, entries-most s g hs hg)
+few-records s g UL hs hg = omega (arith, entries-most s g hs hg)
+few-records s g UR hs hg = omega (arith, entries-most s g hs hg, rows-most s g hs hg)
+few-records s g ULR hs hg = omega (arith, entries-most s g hs hg, rows-most s g hs hg)
+
+-- A delivery for a model with few states and symbols.
+shaped-places : (b d : List ℕ) (s g : ℕ) → s < 9 → g < 17 → (t : Shaped) → shapeOf s g d ≡ t → Refusals (Placed b d) (shapedTests b s g t d)
+unfolding shapedTests
+shaped-places b d s g hs hg Unknown of =
+    refusals-cons
+    (record { small = omega arith; rule = λ from to. absurd (omega arith); bound = λ from to. absurd (omega arith) })
+    (λ e. refusals-none)
+shaped-places b d s g hs hg (Of h) of =
+    refusals-weaken
+    (λ r i x. record {
+      small = omega (arith, shape-long s g d h of, few-records s g h hs hg);
+      rule = λ from to. absurd (omega arith);
+      bound = λ from to. x .whole;
+    })
+    (both (layout-places s g d h of) (number-places s g d h of b))
+
+verdict-places : (b d : List ℕ) → Refusals (Placed b d) (modelTests b ++ deliveryTests b d)
+unfolding deliveryTests modelVerdict
+verdict-places b d =
+    refusals-append
+    (refusals-weaken (λ r i x. record { small = x .small; rule = x .whole; bound = λ from to. absurd (omega arith) }) (model-places b))
+    (λ e.
     let right = model-accepted b .0 e .records .right in
-    shaped-places (statesOf b) (symbolsOf b) (omega (arith, states-most b right)) (omega (arith, symbols-most b right)) b _ d
+    shaped-places b d (statesOf b) (symbolsOf b) (omega (arith, states-most b right)) (omega (arith, symbols-most b right)) _ refl)
 
 pub place-fits : (b d : List ℕ) (r : Reason) (i : ℕ) (k : ℤ) → verdict b d ≡ Refused r i k → i < 65536
-unfolding verdict modelVerdict
-place-fits b d = places-append (model-places b) (delivery-places b d) .refused
+unfolding verdict
+place-fits b d r i k e = verdict-places b d .refused r i k e .small
+
+-- A place that is a record, of the model or of the delivery, is a whole one.
+pub rule-record : (b d : List ℕ) (r : Reason) (i : ℕ) (k : ℤ) → verdict b d ≡ Refused r i k → 11 ≤ numberOf r → numberOf r ≤ 14
+    → i < recordsOf b
+unfolding verdict
+rule-record b d r i k e = verdict-places b d .refused r i k e .rule
+
+pub bound-record : (b d : List ℕ) (r : Reason) (i : ℕ) (k : ℤ) → verdict b d ≡ Refused r i k → 21 ≤ numberOf r → numberOf r ≤ 27
+    → i < length d / 8
+unfolding verdict
+bound-record b d r i k e = verdict-places b d .refused r i k e .bound

@@ -1,4 +1,4 @@
--- The laws of lists of tests: when the outcome is acceptance, which test a refusal names, how a loop finds it, and what bounds its place.
+-- The laws of lists of tests: when the outcome is acceptance, which test a refusal names, how a loop finds it, and what holds of what it names.
 use Prim.Native.Nat.{ℕ, zero, suc, _+_, _<_}
 use native.Mathlib.Nat.{eq-or-lt-of-le, le-of-suc-le-suc}
 use native.Mathlib.Numerals.{add-one}
@@ -177,33 +177,42 @@ passed-each (suc n) h = (
   λ p. passed-append (each n h) (h n) .1 (passed-each n h .1 (λ i l. p i (omega arith)), p n (omega arith)),
 )
 
--- ---- the place of a refusal
+-- ---- what holds of every refusal
 
--- Where the tests refuse, the place is below n.
-pub record PlacesBelow (n : ℕ) (ts : List Test) : Type 0 where
-  pub refused : (r : Reason) (i : ℕ) (k : ℤ) → first ts ≡ Refused r i k → i < n
+-- Where the tests refuse, P holds of the reason and the place.
+pub record Refusals (P : Reason → ℕ → Type 0) (ts : List Test) : Type 0 where
+  pub refused : (r : Reason) (i : ℕ) (k : ℤ) → first ts ≡ Refused r i k → P r i
 
-pub places-none : {n : ℕ} → PlacesBelow n []
-places-none = record { refused = λ r i k e. absurd (refusal-not-accepted (first []) first-empty e) }
+module _ {P : Reason → ℕ → Type 0} where
+  pub refusals-none : Refusals P []
+  refusals-none = record { refused = λ r i k e. absurd (refusal-not-accepted (first []) first-empty e) }
 
-pub places-cons : {n : ℕ} {t : Test} {ts : List Test} → t .place < n → (t .fails ≡ false → PlacesBelow n ts) → PlacesBelow n (t ∷ ts)
-places-cons {n} {t} {ts} h rest =
-    record {
-      refused = λ r i k e. by-test t
-          (λ f. let named : refusal t ≡ Refused r i k = sym (first-fails t ts f) ∙ e in let same : t .place ≡ i = cc in omega arith)
-          (λ f. rest f .refused r i k (sym (first-passes t ts f) ∙ e));
-    }
+  pub refusals-cons : {t : Test} {ts : List Test} → P (t .reason) (t .place) → (t .fails ≡ false → Refusals P ts) → Refusals P (t ∷ ts)
+  refusals-cons {t} {ts} h rest =
+      record {
+        refused = λ r i k e. by-test t
+            (λ f.
+            let named : refusal t ≡ Refused r i k = sym (first-fails t ts f) ∙ e in
+            let reason : t .reason ≡ r = cc in
+            let place : t .place ≡ i = cc in
+            rw (← reason, ← place) h)
+            (λ f. rest f .refused r i k (sym (first-passes t ts f) ∙ e));
+      }
 
--- Of two lists the second refuses only where the first has passed.
-pub places-append : {n : ℕ} {xs ys : List Test} → PlacesBelow n xs → (first xs ≡ Accepted → PlacesBelow n ys) → PlacesBelow n (xs ++ ys)
-places-append {n} {xs} {ys} f g = record { refused = λ r i k e. go r i k e (first xs) refl }
-  where
-    go : (r : Reason) (i : ℕ) (k : ℤ) → first (xs ++ ys) ≡ Refused r i k → (o : Outcome) → first xs ≡ o → i < n
-    go r i k e Accepted q = g q .refused r i k (sym (first-after xs ys q) ∙ e)
-    go r i k e (Refused r′ i′ k′) q =
-        f .refused r i k (sym (first-stands xs ys (λ a. refusal-not-accepted (first xs) a q)) ∙ e)
+  -- Of two lists the second refuses only where the first has passed.
+  pub refusals-append : {xs ys : List Test} → Refusals P xs → (first xs ≡ Accepted → Refusals P ys) → Refusals P (xs ++ ys)
+  refusals-append {xs} {ys} f g = record { refused = λ r i k e. go r i k e (first xs) refl }
+    where
+      go : (r : Reason) (i : ℕ) (k : ℤ) → first (xs ++ ys) ≡ Refused r i k → (o : Outcome) → first xs ≡ o → P r i
+      go r i k e Accepted q = g q .refused r i k (sym (first-after xs ys q) ∙ e)
+      go r i k e (Refused r′ i′ k′) q =
+          f .refused r i k (sym (first-stands xs ys (λ a. refusal-not-accepted (first xs) a q)) ∙ e)
 
-pub places-each : {n : ℕ} (m : ℕ) {h : ℕ → List Test} → ((i : ℕ) → i < m → PlacesBelow n (h i)) → PlacesBelow n (each m h)
-unfolding each
-places-each zero f = places-none
-places-each (suc m) f = places-append (places-each m (λ i l. f i (omega arith))) (λ a. f m (omega arith))
+  pub refusals-each : (m : ℕ) {h : ℕ → List Test} → ((i : ℕ) → i < m → Refusals P (h i)) → Refusals P (each m h)
+  unfolding each
+  refusals-each zero f = refusals-none
+  refusals-each (suc m) f = refusals-append (refusals-each m (λ i l. f i (omega arith))) (λ a. f m (omega arith))
+
+-- What follows from P holds of every refusal too.
+pub refusals-weaken : {P Q : Reason → ℕ → Type 0} {ts : List Test} → ((r : Reason) (i : ℕ) → P r i → Q r i) → Refusals P ts → Refusals Q ts
+refusals-weaken w f = record { refused = λ r i k e. w r i (f .refused r i k e) }
