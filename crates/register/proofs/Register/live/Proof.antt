@@ -1,6 +1,8 @@
 -- `live`: the tests and the number are the definition's, at the register's fields.
+use mathlib.Core.Path.{refl, _∙_}
 use borrow.Author.Needs.{needs}
 use Rattle.register.specs.Questions.{liveIn}
+use Rattle.register.proofs.Answers.{answered-same}
 use Rattle.register.proofs.Register.live.Statement.{statement}
 use Rattle.register.proofs.Register.live.Tie as tie
 
@@ -18,7 +20,9 @@ answered-requires c κs = search needs
 
 returns : tie.Need-returns
 unfolding liveIn
-returns c = cc
+returns c =
+    c .answered .ensures
+    ∙ answered-same (c .before .before .holds-model .ensures) refl (c .before .has-entry .ensures) refl (c .before .before .before .entry-value .ensures)
 
 pub live-spec : {M : Type 1} → statement M
 live-spec =

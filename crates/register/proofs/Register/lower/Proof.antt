@@ -1,6 +1,8 @@
 -- `lower`: the tests and the number are the definition's, at the register's fields.
+use mathlib.Core.Path.{_∙_}
 use borrow.Author.Needs.{needs}
 use Rattle.register.specs.Questions.{lowerIn}
+use Rattle.register.proofs.Answers.{answered-same}
 use Rattle.register.proofs.Register.lower.Statement.{statement}
 use Rattle.register.proofs.Register.lower.Tie as tie
 
@@ -24,7 +26,9 @@ answered-requires c κs = search needs
 
 returns : tie.Need-returns
 unfolding lowerIn
-returns c = cc
+returns c =
+    c .answered .ensures
+    ∙ answered-same (c .before .before .before .before .holds-model .ensures) (c .before .before .before .is-held .ensures) (c .before .before .has-entry .ensures) (c .before .lowers-stand .ensures) (c .before .before .before .before .before .entry-value .ensures)
 
 pub lower-spec : {M : Type 1} → statement M
 lower-spec =

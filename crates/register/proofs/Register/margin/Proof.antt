@@ -1,6 +1,8 @@
 -- `margin`: the tests and the number are the definition's, at the register's fields.
+use mathlib.Core.Path.{refl, _∙_}
 use borrow.Author.Needs.{needs}
 use Rattle.register.specs.Questions.{marginIn}
+use Rattle.register.proofs.Answers.{answered-same}
 use Rattle.register.proofs.Register.margin.Statement.{statement}
 use Rattle.register.proofs.Register.margin.Tie as tie
 
@@ -18,7 +20,9 @@ answered-requires c κs = search needs
 
 returns : tie.Need-returns
 unfolding marginIn
-returns c = cc
+returns c =
+    c .answered .ensures
+    ∙ answered-same (c .before .before .before .holds-model .ensures) (c .before .before .is-held .ensures) refl (c .before .lowers-stand .ensures) refl
 
 pub margin-spec : {M : Type 1} → statement M
 margin-spec =

@@ -1,6 +1,8 @@
 -- `mean_steps`: the tests and the number are the definition's, at the register's fields.
+use mathlib.Core.Path.{_∙_}
 use borrow.Author.Needs.{needs}
 use Rattle.register.specs.Questions.{meanIn}
+use Rattle.register.proofs.Answers.{answered-same}
 use Rattle.register.proofs.Register.mean_steps.Statement.{statement}
 use Rattle.register.proofs.Register.mean_steps.Tie as tie
 
@@ -24,7 +26,9 @@ answered-requires c κs = search needs
 
 returns : tie.Need-returns
 unfolding meanIn
-returns c = cc
+returns c =
+    c .answered .ensures
+    ∙ answered-same (c .before .before .before .before .holds-model .ensures) (c .before .before .before .is-held .ensures) (c .before .before .has-row .ensures) (c .before .means-stand .ensures) (c .before .before .before .before .before .row-value .ensures)
 
 pub mean-steps-spec : {M : Type 1} → statement M
 mean-steps-spec =

@@ -1,6 +1,8 @@
 -- `upper`: the tests and the number are the definition's, at the register's fields.
+use mathlib.Core.Path.{refl, _∙_}
 use borrow.Author.Needs.{needs}
 use Rattle.register.specs.Questions.{upperIn}
+use Rattle.register.proofs.Answers.{answered-same}
 use Rattle.register.proofs.Register.upper.Statement.{statement}
 use Rattle.register.proofs.Register.upper.Tie as tie
 
@@ -21,7 +23,9 @@ answered-requires c κs = search needs
 
 returns : tie.Need-returns
 unfolding upperIn
-returns c = cc
+returns c =
+    c .answered .ensures
+    ∙ answered-same (c .before .before .before .holds-model .ensures) (c .before .before .is-held .ensures) (c .before .has-entry .ensures) refl (c .before .before .before .before .entry-value .ensures)
 
 pub upper-spec : {M : Type 1} → statement M
 upper-spec =
