@@ -2,15 +2,11 @@
 
 use answer::Margin;
 use delivery::layout;
-use delivery::numbers::values;
 use delivery::shape::Shape;
 use delivery::shape::Shaped;
-use delivery::shape::entries;
 use delivery::shape::has_lowers;
 use delivery::shape::shape_of;
-use equations::live;
-use equations::rows;
-use inequalities::margin::margin_of;
+use margins::margin_with_lowers;
 use model::sizes::states;
 use model::sizes::symbols;
 use outcome::Outcome;
@@ -18,17 +14,16 @@ use outcome::Reason;
 use outcome::refused;
 
 pub mod answer; // answer.rt: the margin as an answer
+pub mod margins; // margins.rt: the margin of an accepted delivery with lowers
 mod numbers; // numbers.rt: the tests 23 to 27, in their order
 
 ghost use mathlib.Core.Path.{_≡_};
-ghost use mathlib.Core.Bool.{true};
 ghost use Rattle.outcome.specs.Tests.{first};
-ghost use Rattle.outcome.specs.declared.Outcome.the-variants.{Accepted};
 ghost use Rattle.delivery.specs.declared.shape.Shaped.the-variants.{Of};
-ghost use Rattle.delivery.specs.Shapes.{hasLowers, shapeOf};
+ghost use Rattle.delivery.specs.Shapes.{shapeOf};
 ghost use Rattle.equations.specs.Held.{Sized};
 ghost use Rattle.certificate.specs.Verdict.{shapedTests, verdict};
-ghost use Rattle.certificate.specs.Margin.{marginOf, shownMargin};
+ghost use Rattle.certificate.specs.Margin.{shownMargin};
 ghost use Rattle.certificate.specs.Shown.{shapeIn};
 
 // The tests 21 to 27 of a delivery whose shape is known.
@@ -68,17 +63,6 @@ pub fn shape(model: &[u8], delivery: &[u8]) -> Shaped
         return Shaped::Unknown;
     }
     shape_of(delivery, states(model), symbols(model))
-}
-
-// The margin of an accepted delivery with lowers.
-pub fn margin_with_lowers(model: &[u8], delivery: &[u8], s: usize, g: usize, shape: Shape) -> u64
-    requires { ⌜ Sized (now model) s g × (shapeOf s g (now delivery) ≡ Of shape) × (hasLowers shape ≡ true) × (verdict (now model) (now delivery) ≡ Accepted) ⌝ }
-    ensures { λ r. ⌜ r ≡ marginOf (now (model .entry)) (now (delivery .entry)) ⌝ }
-{
-    let starts = rows::starts(model, s, g);
-    let live = live::marks(model, &starts, s, g);
-    let uppers = values(delivery, entries(s, g));
-    margin_of(model, &starts, &live, &uppers, s, g)
 }
 
 // The margin of any two byte strings: shown where the delivery is accepted and has lowers.

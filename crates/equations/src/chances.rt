@@ -1,5 +1,6 @@
 // f at one entry (document 001, Theorem 1), over its row's records only.
 
+use super::lists::wide;
 use model::record::field;
 use model::record::row_number;
 use model::record::weight;
@@ -11,13 +12,6 @@ ghost use Rattle.model.specs.Records.{recordsOf, target, pushes, top, under};
 ghost use Rattle.model.specs.Rules.{pushOf, rulesOf};
 ghost use Rattle.equations.specs.Held.{Sized, Starts, AtMost};
 ghost use Rattle.equations.specs.Products.{product};
-
-// A listed number as a wider one.
-pub(crate) fn wide(n: u32) -> u64
-    ensures { λ r. ⌜ (r ≡ n) × (n < 2 ^ 32) ⌝ }
-{
-    n as u64
-}
 
 // The number of entry (p, z, q).
 pub fn value(values: &[u32; 1024], s: usize, g: usize, p: usize, z: usize, q: usize) -> u64

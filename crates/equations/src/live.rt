@@ -1,12 +1,10 @@
 // The live marks, by rounds of f from zero everywhere.
 
 use super::chances::f;
+use super::lists::same;
 use model::record::row_number;
 ghost use mathlib.Core.Path.{_≡_};
-ghost use mathlib.Core.Bool.{true};
-ghost use mathlib.Core.Logic.{_↔_};
-ghost use Prim.Native.Nat.{ℕ, _+_, _*_, _≤_, _<_};
-ghost use lib.ListN.{getD};
+ghost use Prim.Native.Nat.{_+_, _*_, _≤_, _<_};
 ghost use Rattle.ppda.specs.Live.{alive};
 ghost use Rattle.model.specs.Rules.{rulesOf};
 ghost use Rattle.equations.specs.Held.{Sized, Starts, AtMost, Marks};
@@ -74,21 +72,6 @@ fn round(
         k += 1;
     }
     next
-}
-
-// Whether the first n numbers are the same.
-pub fn same(a: &[u32; 1024], b: &[u32; 1024], n: usize) -> bool
-    requires { ⌜ n ≤ 1024 ⌝ }
-    ensures { λ r. ⌜ (r ≡ true) ↔ ((e : ℕ) → e < n → getD (now (a .entry)) e 0 ≡ getD (now (b .entry)) e 0) ⌝ }
-{
-    let mut e = 0;
-    while e < n {
-        if a[e] != b[e] {
-            return false;
-        }
-        e += 1;
-    }
-    true
 }
 
 // The live marks: as many rounds as there are entries, or fewer once a round changes nothing.

@@ -1,7 +1,7 @@
 // The right side of the mean steps' inequality (document 001, Theorem 8), over a row's records only.
 
 use super::chances::value;
-use super::chances::wide;
+use super::lists::wide;
 use model::record::field;
 use model::record::row_number;
 use model::record::weight;

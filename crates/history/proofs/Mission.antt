@@ -124,7 +124,7 @@ module _ {cs : List Call} {b d : List ℕ} (files : Files cs b d) where
         upper-asked = upper-replied p z q hp hz hq;
         margin-asked = margin-replied shape has;
         holds = λ k. rw same at (lower-as-shown-of-shape b d h (files .accepted) shape has k p z q hp hz hq);
-        holds-at-zero = λ k. rw same at (lower-of-shape b d h (files .accepted) shape has k p z q hp hz hq);
+        holds-above-zero = λ k. rw same at (lower-of-shape b d h (files .accepted) shape has k p z q hp hz hq);
       }
 
   mean-of : (p z r : ℕ) → atRow b p z (meanReply b d p z) ≡ value r → (n : ℕ) → mean (rulesOf b) n p z * 2 ^ 8 ≤ r * 65536 ^ n

@@ -1,8 +1,8 @@
 -- A register's replies to calls in the order of time are those of the plain pair.
 use mathlib.Core.List.{List, [], _∷_}
-use mathlib.Core.Path.{_≡_, refl, ap, _∙_}
+use mathlib.Core.Path.{_≡_, refl}
 use Rattle.history.specs.Calls.{Call}
-use Rattle.history.specs.Plain.{Event, pairOf, plain, plainReplies}
+use Rattle.history.specs.Plain.{plainReplies}
 use Rattle.history.specs.Run.{registerAfter, history, replies}
 use Rattle.history.specs.Mission.{RepliesAsPlain}
 use Rattle.history.proofs.Plain.{as-plain-pair}

@@ -63,8 +63,8 @@ pub record LowerHeld (cs : List Call) (p z q l : ℕ) : Type 0 where
   pub holds : (k : ℕ)
       → l * 65536 ^ (2 ^ k - 1) * (2 ^ 20) ^ k
       ≤ chance (rulesOf model) (2 ^ k - 1) p z q * 2 ^ 20 * (2 ^ 20) ^ k + (2 ^ 20 - margin-shown) ^ k * upper-shown * 65536 ^ (2 ^ k - 1)
-  -- The same for m = 1/2^57 where the margin shown is 0 (crate ppda, `kept`, `whole`).
-  pub holds-at-zero : (k : ℕ)
+  -- The same with an m that is never 0: the margin shown, or 1/2^57 where that is 0 (crate ppda, `kept`, `whole`).
+  pub holds-above-zero : (k : ℕ)
       → l * 65536 ^ (2 ^ k - 1) * whole margin-shown ^ k
       ≤ chance (rulesOf model) (2 ^ k - 1) p z q * 2 ^ 20 * whole margin-shown ^ k + kept margin-shown ^ k * upper-shown * 65536 ^ (2 ^ k - 1)
 

@@ -1,7 +1,7 @@
 -- The plain pair of document 01: "the last accepted model since the last clearing, and the last delivery accepted for it", and what such a
 -- pair of files replies to a call.
 use Prim.Native.Nat.{ℕ}
-use mathlib.Core.Bool.{Bool, true, false, cond, _&&_}
+use mathlib.Core.Bool.{Bool, cond, _&&_}
 use mathlib.Core.List.{List, [], _∷_}
 use mathlib.Core.Option.{Option, none, some}
 use lib.Dec.{eqb, ltb}

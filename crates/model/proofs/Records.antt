@@ -3,9 +3,14 @@ use Prim.Native.Nat.{ℕ, zero, suc, _+_, _*_, _≤_, _<_, max}
 use native.Mathlib.Nat.{not-suc-le-zero, eq-or-lt-of-le, le-of-suc-le-suc, le-refl, max-le}
 use native.Mathlib.Numerals.{add-one}
 use native.Mathlib.Omega.{arith}
+use mathlib.Core.Bool.{Bool, true, false}
 use mathlib.Core.List.{List, [], _∷_}
 use mathlib.Core.Logic.{_⊎_, inl, inr}
-use mathlib.Core.Path.{_≡_, refl, ap₂, _∙_}
+use mathlib.Core.Path.{_≡_, refl, sym, ap₂, _∙_}
+use lib.Dec.{eqb}
+use lib.ListN.{length, getD, length-append, List·getD-append}
+use lib.Seq.{ext-getD, getD-at}
+use borrow.Author.Tests.{eqb-true, eqb-false}
 use Rattle.ppda.specs.Sums.{bit, sum, sumTo, In}
 use Rattle.ppda.specs.Rules.{Rule, fits, overRow}
 use Rattle.ppda.proofs.Sums.{sum-append}
@@ -28,6 +33,29 @@ in-listTo h (suc n) x e = go (in-append-cases x (listTo h n) (h n ∷ []) e) (in
     go : In x (listTo h n) ⊎ In x (h n ∷ []) → (In x (listTo h n) → (i : ℕ) × (i < n) × (x ≡ h i)) → (i : ℕ) × (i < suc n) × (x ≡ h i)
     go (inl a) rest = let t = rest a in (t .0, omega (arith, t .1), t .2)
     go (inr (inl q)) rest = (n, le-refl (suc n), q)
+
+pub length-listTo : {A : Type 0} (h : ℕ → A) (n : ℕ) → length (listTo h n) ≡ n
+unfolding listTo
+length-listTo h zero = refl
+length-listTo h (suc n) = length-append (listTo h n) _ ∙ rw (length-listTo h n) (omega arith)
+
+pub getD-listTo : (h : ℕ → ℕ) (n e : ℕ) → e < n → getD (listTo h n) e 0 ≡ h e
+unfolding listTo
+getD-listTo h zero e lt = absurd (omega arith)
+getD-listTo h (suc n) e lt = go (eqb e n) refl (getD-listTo h n e)
+  where
+    go : (t : Bool) → eqb e n ≡ t → (e < n → getD (listTo h n) e 0 ≡ h e) → getD (listTo h (suc n)) e 0 ≡ h e
+    go true q before = let r : e ≡ n = eqb-true e n q in rw r (getD-at (listTo h n) (h n) [] 0 n (length-listTo h n))
+    go false q before =
+        let r : e ≡ n → ⊥ = eqb-false e n q in
+        let under : e < n = omega arith in
+        List·getD-append (listTo h n) _ 0 e (rw (length-listTo h n) under) ∙ before under
+
+-- A list is told by its length and its numbers.
+pub listTo-ext : {h : ℕ → ℕ} {l : List ℕ} (n : ℕ) → length l ≡ n → ((e : ℕ) → e < n → getD l e 0 ≡ h e) → l ≡ listTo h n
+listTo-ext {h} {l} n size value =
+    ext-getD 0 l (listTo h n) (size ∙ sym (length-listTo h n))
+    (λ e lt. let under : e < n = omega arith in value e under ∙ sym (getD-listTo h n e under))
 
 -- ---- greatest values
 

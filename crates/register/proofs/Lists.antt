@@ -7,43 +7,18 @@ use mathlib.Core.List.{List, []}
 use mathlib.Core.Logic.{_↔_}
 use mathlib.Core.Path.{_≡_, refl, sym, ap, _∙_}
 use lib.Dec.{eqb, ltb}
-use lib.ListN.{length, getD, take, set, replicate, length-append, length-take, length-set, length-replicate, List·getD-append, List·getD-eq-default}
-use lib.Seq.{take-all, ext-getD, getD-at, getD-take, getD-set-same, getD-set-other, length-take-le}
+use lib.ListN.{length, getD, take, set, replicate, length-take, length-set, length-replicate, List·getD-eq-default}
+use lib.Seq.{take-all, ext-getD, getD-take, getD-set-same, getD-set-other, length-take-le}
 use borrow.Author.Tests.{ltb-true, ltb-false, lt-ltb, eqb-true, eqb-false, eq-eqb}
 use borrow.Author.Count.{below-more}
 use Rattle.ppda.specs.Equations.{Vector, RowVector, entries, rows}
 use Rattle.ppda.proofs.Lists.{getD-zeros}
 use Rattle.ppda.proofs.Places.{row-at, row-of, row-below, entry-below}
-use Rattle.model.specs.Rules.{listTo}
+use Rattle.model.proofs.Records.{length-listTo, getD-listTo, listTo-ext}
 use Rattle.equations.specs.Held.{Same, Marks}
 use Rattle.equations.proofs.Vectors.{SameRows}
 use Rattle.register.specs.Held.{padded, listed, listedRows, filled}
 use Rattle.register.specs.Filing.{allTo, sameTo}
-
--- ---- h 0, h 1, …, h (n − 1)
-
-pub length-listTo : {A : Type 0} (h : ℕ → A) (n : ℕ) → length (listTo h n) ≡ n
-unfolding listTo
-length-listTo h zero = refl
-length-listTo h (suc n) = length-append (listTo h n) _ ∙ rw (length-listTo h n) (omega arith)
-
-pub getD-listTo : (h : ℕ → ℕ) (n e : ℕ) → e < n → getD (listTo h n) e 0 ≡ h e
-unfolding listTo
-getD-listTo h zero e lt = absurd (omega arith)
-getD-listTo h (suc n) e lt = go (eqb e n) refl (getD-listTo h n e)
-  where
-    go : (t : Bool) → eqb e n ≡ t → (e < n → getD (listTo h n) e 0 ≡ h e) → getD (listTo h (suc n)) e 0 ≡ h e
-    go true q before = let r : e ≡ n = eqb-true e n q in rw r (getD-at (listTo h n) (h n) [] 0 n (length-listTo h n))
-    go false q before =
-        let r : e ≡ n → ⊥ = eqb-false e n q in
-        let under : e < n = omega arith in
-        List·getD-append (listTo h n) _ 0 e (rw (length-listTo h n) under) ∙ before under
-
--- A list is told by its length and its numbers.
-pub listTo-ext : {h : ℕ → ℕ} {l : List ℕ} (n : ℕ) → length l ≡ n → ((e : ℕ) → e < n → getD l e 0 ≡ h e) → l ≡ listTo h n
-listTo-ext {h} {l} n size value =
-    ext-getD 0 l (listTo h n) (size ∙ sym (length-listTo h n))
-    (λ e lt. let under : e < n = omega arith in value e under ∙ sym (getD-listTo h n e under))
 
 -- ---- numbers in the first of 1,024 places
 

@@ -3,7 +3,7 @@
 use super::answer::Mark;
 use super::held::HeldModel;
 use super::held::Numbers;
-use certificate::margin_with_lowers;
+use certificate::margins::margin_with_lowers;
 use delivery::numbers::values;
 use delivery::shape::Shape;
 use delivery::shape::Shaped;
@@ -13,7 +13,7 @@ use delivery::shape::has_means;
 use delivery::shape::means_from;
 use delivery::shape::rows;
 use delivery::shape::shape_of;
-use equations::live::same;
+use equations::lists::same;
 use equations::live_marks;
 use model::sizes::states;
 use model::sizes::symbols;

@@ -1,5 +1,6 @@
 // A held number by its entry or its row.
 
+use equations::lists::wide;
 ghost use mathlib.Core.Path.{_≡_};
 ghost use Prim.Native.Nat.{_<_};
 ghost use lib.ListN.{getD};
@@ -10,13 +11,6 @@ fn index_of(byte: u8) -> usize
     ensures { λ r. ⌜ (r ≡ byte) × (r < 256) ⌝ }
 {
     byte as usize
-}
-
-// A number that is held.
-fn wide(number: u32) -> u64
-    ensures { λ r. ⌜ r ≡ number ⌝ }
-{
-    number as u64
 }
 
 // The number at a place: 0 beyond the last.

@@ -3,8 +3,8 @@ use native.Mathlib.Omega.{arith}
 use borrow.Author.Needs.{needs}
 use Rattle.delivery.proofs.Shapes.{uppers-fit}
 use Rattle.certificate.proofs.Steps.{few, accepted-in-range, accepted-strict, margin-found}
-use Rattle.certificate.proofs.margin_with_lowers.Statement.{statement}
-use Rattle.certificate.proofs.margin_with_lowers.Tie as tie
+use Rattle.certificate.proofs.margins.margin_with_lowers.Statement.{statement}
+use Rattle.certificate.proofs.margins.margin_with_lowers.Tie as tie
 
 starts-requires : tie.Need-starts-requires
 starts-requires c κs = search needs

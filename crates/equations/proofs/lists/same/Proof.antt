@@ -5,8 +5,8 @@ use mathlib.Core.Bool.{false≢true}
 use mathlib.Core.Path.{_≡_, refl}
 use lib.ListN.{getD}
 use borrow.Author.Count.{below-none, below-more}
-use Rattle.equations.proofs.live.same.Statement.{statement}
-use Rattle.equations.proofs.live.same.Tie as tie
+use Rattle.equations.proofs.lists.same.Statement.{statement}
+use Rattle.equations.proofs.lists.same.Tie as tie
 
 abbrev Inv-loop : tie.InvT-loop
 Inv-loop a b n e₀ e = (e ≤ n) × ((k : ℕ) → k < e → getD a k 0 ≡ getD b k 0)
