@@ -1,5 +1,6 @@
 // The calls for C hosts, on byte slices. include/bounds.h declares them.
 
+use certificate::beside;
 use outcome::Outcome;
 use outcome::number;
 ghost use mathlib.Core.Path.{_≡_};
@@ -27,12 +28,16 @@ pub extern "C" fn bounds_check_model(model: &[u8]) -> u32
     code(model::check(model))
 }
 
-// Checks a delivery with its model, which is tested first.
+// Checks a delivery with its model, which is tested first. (It calls the two checks itself, and not the one check of both: a call fewer.)
 #[no_mangle]
 pub extern "C" fn bounds_check_delivery(model: &[u8], delivery: &[u8]) -> u32
     ensures { λ r. ⌜ r ≡ codeOf (verdict (now (model .entry)) (now (delivery .entry))) ⌝ }
 {
-    code(certificate::check(model, delivery))
+    let found = model::check(model);
+    if let Outcome::Refused { .. } = found {
+        return code(found);
+    }
+    code(beside::check(model, delivery))
 }
 
 // The shortfall of the same check: 0 when accepted.
@@ -40,7 +45,11 @@ pub extern "C" fn bounds_check_delivery(model: &[u8], delivery: &[u8]) -> u32
 pub extern "C" fn bounds_delivery_shortfall(model: &[u8], delivery: &[u8]) -> i64
     ensures { λ r. ⌜ r ≡ shortfallOf (verdict (now (model .entry)) (now (delivery .entry))) ⌝ }
 {
-    match certificate::check(model, delivery) {
+    let found = model::check(model);
+    if let Outcome::Refused { shortfall, .. } = found {
+        return shortfall;
+    }
+    match beside::check(model, delivery) {
         Outcome::Accepted => 0,
         Outcome::Refused { shortfall, .. } => shortfall,
     }

@@ -1,5 +1,5 @@
--- The tests of a block of numbers, as the code goes through them: they read no number but those of the model's entries and rows, number by
--- number they are the tests by (p, Z, q), and the list of a block's values stands for the block.
+-- The tests of a block of numbers, as the code goes through them: they read no number but those of the model's entries and rows, in the
+-- code's order they are the tests by (p, Z, q), and a part of a file that ends with a block, or the list of its values, stands for the block.
 use Prim.Native.Nat.{ℕ, _+_, _*_, _^_, _≤_, _<_}
 use native.Mathlib.Nat.{zero-add}
 use native.Mathlib.Omega.{arith}
@@ -7,8 +7,10 @@ use mathlib.Core.Bool.{Bool, true, false, cond}
 use mathlib.Core.List.{List, [], _∷_}
 use mathlib.Core.Path.{_≡_, refl, sym, ap, ap₂, _∙_}
 use lib.Dec.{ltb}
-use lib.ListN.{getD}
+use lib.ListN.{length, take, getD, List·getD-eq-default}
+use lib.Seq.{length-take-le, getD-take}
 use borrow.Author.Tests.{ltb-true, ltb-false}
+use Rattle.words.specs.Words.{wordAt}
 use Rattle.outcome.specs.Tests.{Test, each}
 use Rattle.outcome.proofs.Tests.{each-cong}
 use Rattle.ppda.specs.Rules.{Rule, IsModel}
@@ -16,17 +18,17 @@ use Rattle.ppda.specs.Equations.{Vector, RowVector, entries, rows, f}
 use Rattle.model.specs.Rules.{rulesOf}
 use Rattle.delivery.specs.Records.{valueOf}
 use Rattle.delivery.specs.Shapes.{entriesIn}
-use Rattle.delivery.specs.Numbers.{entryAt, rowAt, uppersOf}
+use Rattle.delivery.specs.Numbers.{entryAt, rowAt, uppersOf, rowsOfBlock}
 use Rattle.delivery.specs.Layout.{eachEntry, eachRow}
-use Rattle.delivery.specs.Walks.{Values}
+use Rattle.delivery.specs.Walks.{Values, Within}
 use Rattle.delivery.proofs.Walks.{entries-by-number}
-use Rattle.equations.specs.Held.{AtMost, Same}
+use Rattle.equations.specs.Exits.{exitMarks}
+use Rattle.equations.specs.Held.{Same}
 use Rattle.ppda.proofs.Places.{row-below, entry-below}
 use Rattle.equations.proofs.Vectors.{SameRows, f-same, mean-side-same}
 use Rattle.inequalities.specs.declared.sides.Side.the-variants.{Upper, StrictUpper, Lower}
 use Rattle.inequalities.specs.Inequalities.{deadTest, upperTest, belowTest, lowerTest, meanTest, deadTests, upperTests, belowTests, lowerTests, meanTests}
 use Rattle.inequalities.specs.Walks.{deadAt, belowAt, sideTest, sideAt, meanAt}
-use Rattle.certificate.specs.Rest.{rowsOfBlock}
 
 -- ---- the same numbers, the same tests
 
@@ -83,14 +85,14 @@ module _ {m : List Rule} {s g : ℕ} (model : IsModel s g m) where
 
 -- ---- the tests as the code goes through them
 
-pub dead-by-number : (s g : ℕ) (a v : List ℕ) (from : ℕ)
-    → each (s * g * s) (deadAt a v from) ≡ deadTests s g (entries s g a) (entries s g v) from
+pub dead-by-entry : (s g : ℕ) (a d : List ℕ) (from : ℕ)
+    → eachEntry s g (deadAt s g a d from) ≡ deadTests s g (exitMarks g a) (uppersOf s g d) from
 unfolding deadTests
-dead-by-number s g a v from = sym (entries-by-number s g _ (deadAt a v from) (λ p z q hp hz hq. refl))
+dead-by-entry s g a d from = refl
 
 pub below-by-number : (s g : ℕ) (l u : List ℕ)
-    → each (s * g * s) (belowAt l u (entriesIn s g)) ≡ belowTests s g (entries s g l) (entries s g u)
-unfolding belowTests
+    → each (s * g * s) (belowAt l u (entriesIn s g)) ≡ belowTests s g (uppersOf s g l) (uppersOf s g u)
+unfolding belowTests uppersOf
 below-by-number s g l u = sym (entries-by-number s g _ (belowAt l u (entriesIn s g)) (λ p z q hp hz hq. refl))
 
 -- The sides of uppers, by whether lowers stand.
@@ -99,20 +101,59 @@ upper-side true a u y i = ap (upperTest true a u y) (zero-add i)
 upper-side false a u y i = ap (upperTest false a u y) (zero-add i)
 
 module _ (b : List ℕ) (s g : ℕ) where
-  pub uppers-by-side : (t : Bool) (a v : List ℕ)
-      → eachEntry s g (sideAt (cond t StrictUpper Upper) b s g a v 0) ≡ upperTests (rulesOf b) s g t (entries s g a) (entries s g v)
+  pub uppers-by-side : (t : Bool) (a d : List ℕ)
+      → eachEntry s g (sideAt (cond t StrictUpper Upper) b s g a d 0) ≡ upperTests (rulesOf b) s g t (exitMarks g a) (uppersOf s g d)
   unfolding upperTests
-  uppers-by-side t a v = entries-cong s g _ _ (λ p z q hp hz hq. ap (λ x. x ∷ []) (upper-side t _ _ _ _))
+  uppers-by-side t a d = entries-cong s g _ _ (λ p z q hp hz hq. ap (λ x. x ∷ []) (upper-side t _ _ _ _))
 
-  pub lowers-by-side : (a v : List ℕ)
-      → eachEntry s g (sideAt Lower b s g a v (entriesIn s g)) ≡ lowerTests (rulesOf b) s g (entries s g v)
+  pub lowers-by-side : (a d : List ℕ)
+      → eachEntry s g (sideAt Lower b s g a d (entriesIn s g)) ≡ lowerTests (rulesOf b) s g (uppersOf s g d)
   unfolding lowerTests
-  lowers-by-side a v = refl
+  lowers-by-side a d = refl
 
   pub means-by-row : (u r : List ℕ) (from : ℕ)
-      → eachRow s g (meanAt b s g u r from) ≡ meanTests (rulesOf b) s g (entries s g u) (rows g r) from
+      → eachRow s g (meanAt b s g u r from) ≡ meanTests (rulesOf b) s g (uppersOf s g u) (rowsOfBlock g r) from
   unfolding meanTests
   means-by-row u r from = refl
+
+-- ---- a part of a file that ends with its block
+
+-- The first n records have the file's values.
+part-value : (d : List ℕ) (n e : ℕ) → e < n → valueOf (take (8 * n) d) e ≡ valueOf d e
+unfolding valueOf wordAt
+part-value d n e h = rw (byte at (omega arith), byte (at + 1) (omega arith), byte (at + 2) (omega arith), byte (at + 3) (omega arith))
+  where
+    at : ℕ
+    at = 8 * e + 4
+
+    byte : (i : ℕ) → i < 8 * n → getD (take (8 * n) d) i 0 ≡ getD d i 0
+    byte i l = getD-take (8 * n) d i 0 l
+
+pub part-same : (s g : ℕ) (d : List ℕ) {n : ℕ} → n ≡ entriesIn s g → Same s g (uppersOf s g (take (8 * n) d)) (uppersOf s g d)
+unfolding uppersOf
+part-same s g d {n} e p z q hp hz hq = part-value d n (entryAt s g p z q) (rw e (entry-below s g p z q hp hz hq))
+
+-- Past the last record every value is 0.
+past-end : (d : List ℕ) (n e : ℕ) → length d ≡ 8 * n → n ≤ e → valueOf d e ≡ 0
+unfolding valueOf wordAt
+past-end d n e ends h = rw (byte at (omega arith), byte (at + 1) (omega arith), byte (at + 2) (omega arith), byte (at + 3) (omega arith))
+  where
+    at : ℕ
+    at = 8 * e + 4
+
+    byte : (i : ℕ) → length d ≤ i → getD d i 0 ≡ 0
+    byte i l = List·getD-eq-default d 0 l
+
+pub ends-within : (d : List ℕ) (n a : ℕ) → length d ≡ 8 * n → ((e : ℕ) → e < n → valueOf d e ≤ a) → Within d n a
+ends-within d n a ends most = record { whole = omega arith; most = λ e. go e (ltb e n) refl }
+  where
+    go : (e : ℕ) (t : Bool) → ltb e n ≡ t → valueOf d e ≤ a
+    go e true q = most e (ltb-true e n q)
+    go e false q = omega (arith, past-end d n e ends (ltb-false e n q))
+
+pub part-within : (d : List ℕ) (n a : ℕ) → 8 * n ≤ length d → ((e : ℕ) → e < n → valueOf d e ≤ a) → Within (take (8 * n) d) n a
+part-within d n a whole most =
+    ends-within (take (8 * n) d) n a (length-take-le (8 * n) d whole) (λ e h. rw (part-value d n e h) (most e h))
 
 -- ---- the list of a block's values
 
@@ -122,10 +163,3 @@ values-same s g values p z q hp hz hq = values .value (entryAt s g p z q) (entry
 
 pub values-rows : (s g : ℕ) {d l : List ℕ} → Values d (s * g) l → SameRows s g (rows g l) (rowsOfBlock g d)
 values-rows s g values p z hp hz = values .value (rowAt g p z) (row-below s g p z hp hz)
-
-pub values-most : {d l : List ℕ} {n a : ℕ} → Values d n l → ((e : ℕ) → e < n → valueOf d e ≤ a) → AtMost a l
-values-most {d} {l} {n} {a} values most e = go (ltb e n) refl
-  where
-    go : (t : Bool) → ltb e n ≡ t → getD l e 0 ≤ a
-    go true q = let h : e < n = ltb-true e n q in rw (values .value e h) (most e h)
-    go false q = omega (arith, values .none e (ltb-false e n q))

@@ -5,7 +5,7 @@ use native.Mathlib.Omega.{arith}
 use mathlib.Core.Bool.{Bool, true, false, cond}
 use mathlib.Core.List.{List, _++_}
 use mathlib.Core.Path.{_≡_, refl, ap, _∙_}
-use lib.ListN.{length, drop, length-drop}
+use lib.ListN.{length, take, drop, length-drop}
 use lib.Seq.{drop-drop}
 use Rattle.outcome.specs.declared.Outcome.the-variants.{Accepted}
 use Rattle.outcome.specs.Tests.{first}
@@ -17,19 +17,20 @@ use Rattle.ppda.proofs.Places.{row-split}
 use Rattle.delivery.specs.declared.shape.Shape.{Shape}
 use Rattle.delivery.specs.declared.shape.Shaped.the-variants.{Of}
 use Rattle.delivery.specs.Records.{valueOf}
-use Rattle.delivery.specs.Shapes.{entriesIn, rowsIn, hasLowers, meansFrom, shapeOf}
-use Rattle.delivery.specs.Numbers.{entryAt, rowAt, uppersOf, lowersOf, meansOf}
+use Rattle.delivery.specs.Shapes.{entriesIn, rowsIn, hasLowers, hasMeans, meansFrom, recordsIn, shapeOf}
+use Rattle.delivery.specs.Numbers.{entryAt, rowAt, uppersOf, lowersOf, meansOf, rowsOfBlock}
 use Rattle.delivery.specs.Layout.{layoutTests}
-use Rattle.delivery.proofs.Shapes.{uppers-fit, lowers-fit, means-fit}
+use Rattle.delivery.specs.Walks.{Within}
+use Rattle.delivery.proofs.Shapes.{shape-long, uppers-fit, lowers-fit}
 use Rattle.delivery.proofs.Walks.{rest-value}
 use Rattle.equations.specs.Held.{Same}
 use Rattle.equations.proofs.Vectors.{SameRows}
 use Rattle.inequalities.specs.Inequalities.{deadTests}
 use Rattle.certificate.specs.Verdict.{numberTests}
 use Rattle.certificate.specs.Accepted.{AtEntries, AtRows}
-use Rattle.certificate.specs.Rest.{BlockRead, RestRead, rowsOfBlock, meansBlock, restMeans, restTests}
+use Rattle.certificate.specs.Rest.{RestRead, meansBlock, restMeans, restTests}
 use Rattle.certificate.proofs.Accepted.{layout-right}
-use Rattle.certificate.proofs.Blocks.{itself, dead-same, below-same, upper-same, lower-same, mean-same}
+use Rattle.certificate.proofs.Blocks.{itself, dead-same, below-same, upper-same, lower-same, mean-same, ends-within, part-within}
 
 -- ---- the numbers of the rest
 
@@ -68,30 +69,39 @@ at-numbers {s} {g} P at e h =
 at-row-numbers : {s g : ℕ} (P : ℕ → Type 0) → AtRows s g (λ p z. P (rowAt g p z)) → (e : ℕ) → e < rowsIn s g → P e
 at-row-numbers {s} {g} P at e h = let (p, z, hp, hz, here) = row-split s g e h in rw here (at p z hp hz)
 
--- n records of a file from record `from` on, as a block.
-block-read : (d : List ℕ) (from n a : ℕ) → 8 * (from + n) ≤ length d → ((e : ℕ) → e < n → valueOf d (from + e) ≤ a)
-    → BlockRead (drop (8 * from) d) n a
-block-read d from n a whole most =
-    record { whole = rw (length-drop (8 * from) d) (omega arith); most = λ e h. rw (rest-value d from e) (most e h) }
+module _ (s g : ℕ) (d : List ℕ) {h : Shape} (shape : shapeOf s g d ≡ Of h) where
+  pub uppers-within : AtEntries s g (λ p z q. uppersOf s g d p z q ≤ 2097152) → Within (take (8 * entriesIn s g) d) (entriesIn s g) 2097152
+  unfolding uppersOf
+  uppers-within most = part-within d (entriesIn s g) 2097152 (uppers-fit s g d h shape) (at-numbers (λ e. valueOf d e ≤ 2097152) most)
 
-module _ (s g : ℕ) (d : List ℕ) {h : Shape} (shape : shapeOf s g d ≡ Of h) (layout : first (layoutTests s g h d) ≡ Accepted) where
-  pub uppers-read : BlockRead d (entriesIn s g) 2097152
-  uppers-read =
-      record {
-        whole = uppers-fit s g d h shape;
-        most = at-numbers (λ e. valueOf d e ≤ 2097152) (λ p z q hp hz hq. layout-right s g h d layout .0 p z q hp hz hq .most);
-      }
+  -- The file ends with its mean steps.
+  means-end : hasMeans h ≡ true → length (drop (8 * meansFrom s g h) d) ≡ 8 * rowsIn s g
+  unfolding recordsIn
+  means-end has = rw (length-drop (8 * meansFrom s g h) d) (omega (arith, rw has at (shape-long s g d h shape)))
 
-  pub rest-read : RestRead s g h (drop (8 * entriesIn s g) d)
-  rest-read =
-      record {
-        lowers = λ has. block-read d (entriesIn s g) (entriesIn s g) 2097152 (lowers-fit s g d h shape has)
-            (at-numbers (λ e. valueOf d (entriesIn s g + e) ≤ 2097152) (λ p z q hp hz hq.
-            layout-right s g h d layout .1 .0 has p z q hp hz hq .most));
-        means = λ has. rw (means-block s g h d) (block-read d (meansFrom s g h) (rowsIn s g) 4194304 (means-fit s g d h shape has)
-            (at-row-numbers (λ e. valueOf d (meansFrom s g h + e) ≤ 4194304) (λ p z hp hz.
-            layout-right s g h d layout .1 .1 has p z hp hz .most)));
-      }
+  module _ (layout : first (layoutTests s g h d) ≡ Accepted) where
+    pub uppers-read : Within (take (8 * entriesIn s g) d) (entriesIn s g) 2097152
+    unfolding uppersOf
+    uppers-read = uppers-within (λ p z q hp hz hq. layout-right s g h d layout .0 p z q hp hz hq .most)
+
+    lowers-read : hasLowers h ≡ true
+        → Within (take (8 * entriesIn s g) (drop (8 * entriesIn s g) d)) (entriesIn s g) 2097152
+    lowers-read has =
+        part-within (drop (8 * entriesIn s g) d) (entriesIn s g) 2097152
+        (rw (length-drop (8 * entriesIn s g) d) (omega (arith, lowers-fit s g d h shape has)))
+        (λ e l. rw (rest-value d (entriesIn s g) e)
+        (at-numbers (λ i. valueOf d (entriesIn s g + i) ≤ 2097152)
+        (λ p z q hp hz hq. layout-right s g h d layout .1 .0 has p z q hp hz hq .most) e l))
+
+    means-read : hasMeans h ≡ true → Within (meansBlock s g h (drop (8 * entriesIn s g) d)) (rowsIn s g) 4194304
+    means-read has =
+        rw (means-block s g h d) (ends-within (drop (8 * meansFrom s g h) d) (rowsIn s g) 4194304 (means-end has)
+        (λ e l. rw (rest-value d (meansFrom s g h) e)
+        (at-row-numbers (λ i. valueOf d (meansFrom s g h + i) ≤ 4194304)
+        (λ p z hp hz. layout-right s g h d layout .1 .1 has p z hp hz .most) e l)))
+
+    pub rest-read : RestRead s g h (drop (8 * entriesIn s g) d)
+    rest-read = record { lowers = lowers-read; means = means-read }
 
 -- ---- the tests by the rest
 

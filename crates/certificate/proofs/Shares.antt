@@ -6,7 +6,7 @@ use mathlib.Core.List.{List}
 use mathlib.Core.Path.{_≡_, refl, ap, ap₂, _∙_}
 use Rattle.outcome.specs.declared.Outcome.the-variants.{Accepted}
 use Rattle.ppda.specs.Sums.{leastTo}
-use Rattle.ppda.specs.Equations.{entries, f}
+use Rattle.ppda.specs.Equations.{f}
 use Rattle.ppda.specs.Live.{alive}
 use Rattle.ppda.specs.Margin.{shareAt, margin}
 use Rattle.ppda.proofs.Marks.{alive-is-bit}
@@ -15,6 +15,7 @@ use Rattle.delivery.specs.declared.shape.Shape.{Shape}
 use Rattle.delivery.specs.declared.shape.Shaped.the-variants.{Of}
 use Rattle.delivery.specs.Shapes.{hasLowers, shapeOf}
 use Rattle.delivery.specs.Numbers.{uppersOf}
+use Rattle.equations.specs.Exits.{exitMarks}
 use Rattle.equations.specs.Held.{Sized, Same}
 use Rattle.equations.proofs.Ranges.{sized-model}
 use Rattle.equations.proofs.Vectors.{f-same}
@@ -28,18 +29,18 @@ unfolding leastTo
 leastTo-cong top h k zero e = refl
 leastTo-cong top h k (suc n) e = ap₂ min (leastTo-cong top h k n (λ i l. e i (omega arith))) (e n (omega arith))
 
--- The lists have the live marks of the model and the uppers of the delivery.
-module _ {b : List ℕ} {s g : ℕ} (d a u : List ℕ) (sized : Sized b s g) (marks : Same s g (entries s g a) (alive (rulesOf b) s g))
-    (uppers : Same s g (entries s g u) (uppersOf s g d)) where
+-- The list a has the live marks of the model by rows, and the bytes u start with the uppers of the delivery.
+module _ {b : List ℕ} {s g : ℕ} (d a u : List ℕ) (sized : Sized b s g) (marks : Same s g (exitMarks g a) (alive (rulesOf b) s g))
+    (uppers : Same s g (uppersOf s g u) (uppersOf s g d)) where
   f-of-uppers : (p z q : ℕ) → q < s
-      → f (rulesOf b) s (2 ^ 20) (entries s g u) p z q ≡ f (rulesOf b) s (2 ^ 20) (uppersOf s g d) p z q
-  f-of-uppers = f-same (sized-model sized) (2 ^ 20) (entries s g u) (uppersOf s g d) uppers
+      → f (rulesOf b) s (2 ^ 20) (uppersOf s g u) p z q ≡ f (rulesOf b) s (2 ^ 20) (uppersOf s g d) p z q
+  f-of-uppers = f-same (sized-model sized) (2 ^ 20) (uppersOf s g u) (uppersOf s g d) uppers
 
   pub least-share : leastShare b s g a u ≡ margin (rulesOf b) s g (uppersOf s g d)
   unfolding leastShare margin
   least-share =
       leastTo-cong (2 ^ 20) _ _ s (λ p hp. leastTo-cong (2 ^ 20) _ _ g (λ z hz. leastTo-cong (2 ^ 20) _ _ s (λ q hq.
-      ap (λ n. shareAt n (entries s g u p z q) (f (rulesOf b) s (2 ^ 20) (entries s g u) p z q)) (marks p z q hp hz hq)
+      ap (λ n. shareAt n (uppersOf s g u p z q) (f (rulesOf b) s (2 ^ 20) (uppersOf s g u) p z q)) (marks p z q hp hz hq)
       ∙ ap₂ (shareAt (alive (rulesOf b) s g p z q)) (uppers p z q hp hz hq) (f-of-uppers p z q hq))))
 
   pub strict-of : {h : Shape} → verdict b d ≡ Accepted → shapeOf s g d ≡ Of h → hasLowers h ≡ true → Strict b s g a u

@@ -6,7 +6,7 @@ use mathlib.Core.Bool.{Bool, true, false, cond}
 use mathlib.Core.List.{List, _++_, append-assoc}
 use mathlib.Core.Path.{_≡_, refl, sym, ap, ap₂, _∙_}
 use lib.IntN.{ℤ, pos}
-use lib.ListN.{length, take, drop, length-drop}
+use lib.ListN.{length, take, drop, length-take, length-drop}
 use lib.Seq.{take-all}
 use Rattle.outcome.specs.declared.Reason.{Reason}
 use Rattle.outcome.specs.declared.Reason.the-variants.{NoShape}
@@ -14,7 +14,6 @@ use Rattle.outcome.specs.declared.Outcome.{Outcome}
 use Rattle.outcome.specs.declared.Outcome.the-variants.{Accepted, Refused}
 use Rattle.outcome.specs.Tests.{Test, first, each}
 use Rattle.outcome.proofs.Tests.{first-empty, first-refused, first-rest}
-use Rattle.ppda.specs.Equations.{entries}
 use Rattle.ppda.specs.Live.{alive}
 use Rattle.model.specs.Records.{statesOf, symbolsOf}
 use Rattle.model.specs.Rules.{rulesOf}
@@ -22,26 +21,26 @@ use Rattle.model.specs.Verdict.{modelTests, modelVerdict}
 use Rattle.delivery.specs.declared.shape.Shape.{Shape}
 use Rattle.delivery.specs.declared.shape.Shaped.{Shaped}
 use Rattle.delivery.specs.declared.shape.Shaped.the-variants.{Of, Unknown}
-use Rattle.delivery.specs.Records.{valueOf}
 use Rattle.delivery.specs.Shapes.{entriesIn, rowsIn, hasLowers, hasMeans, meansFrom, shapeOf}
 use Rattle.delivery.specs.Numbers.{uppersOf}
 use Rattle.delivery.specs.Layout.{eachEntry, eachRow, onlyIf, layoutTests}
-use Rattle.delivery.specs.Walks.{Values}
-use Rattle.equations.specs.Held.{Sized, Same, AtMost}
+use Rattle.delivery.specs.Walks.{Within}
+use Rattle.equations.specs.Exits.{exitMarks}
+use Rattle.equations.specs.Held.{Sized, ExitsOf}
 use Rattle.equations.proofs.Ranges.{few-states, few-symbols, some-symbols, sized-model}
-use Rattle.inequalities.specs.Inequalities.{deadTests, upperTests, belowTests, lowerTests, meanTests}
+use Rattle.inequalities.specs.Inequalities.{deadTests, upperTests, belowTests, lowerTests}
 use Rattle.inequalities.specs.declared.sides.Side.the-variants.{Upper, StrictUpper, Lower}
 use Rattle.inequalities.specs.Walks.{deadAt, belowAt, sideAt, meanAt}
 use Rattle.inequalities.specs.Shares.{Strict, leastShare}
 use Rattle.certificate.specs.declared.answer.Margin.the-variants.{Shown, Absent}
 use Rattle.certificate.specs.Verdict.{numberTests, shapedTests, deliveryTests, verdict}
 use Rattle.certificate.specs.Accepted.{UppersRight}
-use Rattle.certificate.specs.Rest.{BlockRead, RestRead, rowsOfBlock, meansBlock, restMeans, restTests}
+use Rattle.certificate.specs.Rest.{RestRead, meansBlock, restMeans, restTests}
 use Rattle.certificate.specs.Margin.{marginOf, shownMargin}
 use Rattle.certificate.specs.Shown.{shapeIn}
 use Rattle.certificate.proofs.Accepted.{delivery-accepted}
-use Rattle.certificate.proofs.Blocks.{itself, dead-same, below-same, lower-same, mean-same, dead-by-number, below-by-number, uppers-by-side, lowers-by-side, means-by-row, values-same, values-rows, values-most}
-use Rattle.certificate.proofs.Rest.{at-numbers, uppers-read, rest-read, rest-same, numbers-by-rest}
+use Rattle.certificate.proofs.Blocks.{itself, dead-same, below-same, lower-same, dead-by-entry, below-by-number, uppers-by-side, lowers-by-side, means-by-row, part-same}
+use Rattle.certificate.proofs.Rest.{uppers-within, uppers-read, rest-read, rest-same, numbers-by-rest}
 use Rattle.certificate.proofs.Shares.{least-share, strict-of}
 
 -- ---- an accepted model and its sizes
@@ -68,70 +67,79 @@ part-from d {n} e = take-all (length d - 8 * n) (drop (8 * n) d) (omega (arith, 
 -- A right layout has its uppers and its rest in range.
 module _ (s g : ℕ) (d : List ℕ) {h : Shape} (shape : shapeOf s g d ≡ Of h) (layout : first (layoutTests s g h d) ≡ Accepted)
     {n : ℕ} (e : n ≡ entriesIn s g) where
-  pub uppers-in-range : {l : List ℕ} → Values d n l → AtMost 2097152 l
-  uppers-in-range values = values-most (rw e at values) (uppers-read s g d shape layout .most)
+  pub uppers-in-range : Within (take (8 * n) d) (entriesIn s g) 2097152
+  uppers-in-range = rw e (uppers-read s g d shape layout)
 
   pub rest-in-range : RestRead s g h (take (length d - 8 * n) (drop (8 * n) d))
   rest-in-range = rw (part-from d e) (rest-read s g d shape layout)
 
 -- An accepted delivery has its uppers in range.
-pub accepted-in-range : {b d l : List ℕ} {s g n : ℕ} → Sized b s g → verdict b d ≡ Accepted → n ≡ entriesIn s g → Values d n l
-    → AtMost 2097152 l
-accepted-in-range {b} {d} {l} {s} {g} sized accepted e values =
+pub accepted-in-range : {b : List ℕ} {s g n : ℕ} (d : List ℕ) {h : Shape} → Sized b s g → shapeOf s g d ≡ Of h → verdict b d ≡ Accepted
+    → n ≡ entriesIn s g → Within (take (8 * n) d) (entriesIn s g) 2097152
+unfolding uppersOf
+accepted-in-range {b} {s} {g} d sized shape accepted e =
     let uppers : UppersRight b s g d = rw (sized .states, sized .symbols) (delivery-accepted b d .0 accepted .delivery .uppers) in
-    values-most (rw e at values) (at-numbers (λ i. valueOf d i ≤ 2097152) (λ p z q hp hz hq. uppers .due p z q hp hz hq .most))
+    rw e (uppers-within s g d shape (λ p z q hp hz hq. uppers .due p z q hp hz hq .most))
 
--- A rest in range has its block of mean steps in range.
+-- A rest with its lowers in range has them, and one in range has its block of mean steps in range.
+module _ (s g : ℕ) (rest : List ℕ) (read : Within (take (8 * entriesIn s g) rest) (entriesIn s g) 2097152) {n : ℕ} (e : n ≡ entriesIn s g)
+  where
+    pub lowers-whole : 8 * n ≤ length rest
+    lowers-whole = omega (arith, read .whole, length-take (8 * entriesIn s g) rest)
+
+    pub lowers-in-range : Within (take (8 * n) rest) (entriesIn s g) 2097152
+    lowers-in-range = rw e read
+
 module _ {s g : ℕ} {h : Shape} {rest : List ℕ} (read : RestRead s g h rest) (stand : hasMeans h ≡ true) where
   pub block-after-lowers : {n : ℕ} → n ≡ entriesIn s g → hasLowers h ≡ true
-      → BlockRead (take (length rest - 8 * n) (drop (8 * n) rest)) (rowsIn s g) 4194304
+      → Within (take (length rest - 8 * n) (drop (8 * n) rest)) (rowsIn s g) 4194304
   unfolding meansBlock
   block-after-lowers e lowers = rw (part-from rest e) (rw lowers at (read .means stand))
 
-  pub block-alone : hasLowers h ≡ false → BlockRead rest (rowsIn s g) 4194304
+  pub block-alone : hasLowers h ≡ false → Within rest (rowsIn s g) 4194304
   unfolding meansBlock
   block-alone lowers = rw lowers at (read .means stand)
 
--- ---- the parts in which the code takes the tests: t is whether lowers stand, a lists the live marks and u the uppers
+-- ---- the parts in which the code takes the tests: t is whether lowers stand, a lists the rows' live marks and u starts with the uppers
 
 -- 23 in the lowers, which the rest of the file starts with.
 abbrev pub deadPart : ℕ → ℕ → Bool → List ℕ → List ℕ → List Test
-deadPart s g t a rest = onlyIf t (deadTests s g (entries s g a) (uppersOf s g rest) (entriesIn s g))
+deadPart s g t a rest = onlyIf t (deadTests s g (exitMarks g a) (uppersOf s g rest) (entriesIn s g))
 
 -- 24.
 abbrev pub upperPart : List ℕ → ℕ → ℕ → Bool → List ℕ → List ℕ → List Test
-upperPart b s g t a u = upperTests (rulesOf b) s g t (entries s g a) (entries s g u)
+upperPart b s g t a u = upperTests (rulesOf b) s g t (exitMarks g a) (uppersOf s g u)
 
 -- 25 and 26.
 abbrev pub lowerPart : List ℕ → ℕ → ℕ → Bool → List ℕ → List ℕ → List Test
 lowerPart b s g t u rest =
-    onlyIf t (belowTests s g (uppersOf s g rest) (entries s g u)) ++ onlyIf t (lowerTests (rulesOf b) s g (uppersOf s g rest))
+    onlyIf t (belowTests s g (uppersOf s g rest) (uppersOf s g u)) ++ onlyIf t (lowerTests (rulesOf b) s g (uppersOf s g rest))
 
 -- ---- the outcome of each part
 
--- The lowers stand, and the list l has their values.
-module _ (s g : ℕ) {rest l : List ℕ} {n : ℕ} (e : n ≡ entriesIn s g) (values : Values rest n l) (t : Bool) (stand : t ≡ true) where
-  lowers-same : Same s g (entries s g l) (uppersOf s g rest)
-  lowers-same = values-same s g (rw e at values)
+-- The lowers stand: the code takes the first V records of the rest.
+module _ (s g : ℕ) (rest : List ℕ) {n : ℕ} (e : n ≡ entriesIn s g) (t : Bool) (stand : t ≡ true) where
+  abbrev block : List ℕ
+  block = take (8 * n) rest
 
-  pub dead-found : (a : List ℕ) (o : Outcome) → o ≡ first (each n (deadAt a l n)) → o ≡ first (deadPart s g t a rest)
+  pub dead-found : (a : List ℕ) (o : Outcome) → o ≡ first (eachEntry s g (deadAt s g a block n)) → o ≡ first (deadPart s g t a rest)
   dead-found a o found =
-      rw stand (found ∙ rw e
-      (ap first (dead-by-number s g a l (entriesIn s g) ∙ dead-same (entriesIn s g) (itself (entries s g a)) lowers-same)))
+      rw stand (found ∙ ap first (dead-by-entry s g a block n
+      ∙ dead-same n (itself (exitMarks g a)) (part-same s g rest e) ∙ ap (deadTests s g (exitMarks g a) (uppersOf s g rest)) e))
 
-  below-tests : (u : List ℕ) → each n (belowAt l u n) ≡ belowTests s g (uppersOf s g rest) (entries s g u)
-  below-tests u = rw e (below-by-number s g l u ∙ below-same lowers-same (itself (entries s g u)))
+  below-tests : (u : List ℕ) → each n (belowAt block u n) ≡ belowTests s g (uppersOf s g rest) (uppersOf s g u)
+  below-tests u = rw e (below-by-number s g _ u ∙ below-same (part-same s g rest refl) (itself (uppersOf s g u)))
 
   lower-tests : {b : List ℕ} → Sized b s g → (a : List ℕ)
-      → eachEntry s g (sideAt Lower b s g a l n) ≡ lowerTests (rulesOf b) s g (uppersOf s g rest)
-  lower-tests {b} sized a = rw e (lowers-by-side b s g a l ∙ lower-same (sized-model sized) lowers-same)
+      → eachEntry s g (sideAt Lower b s g a block n) ≡ lowerTests (rulesOf b) s g (uppersOf s g rest)
+  lower-tests {b} sized a = rw e (lowers-by-side b s g a _ ∙ lower-same (sized-model sized) (part-same s g rest refl))
 
-  pub below-refused : (b u : List ℕ) (o : Outcome) {r : Reason} {i : ℕ} {k : ℤ} → o ≡ first (each n (belowAt l u n)) → o ≡ Refused r i k
-      → o ≡ first (lowerPart b s g t u rest)
+  pub below-refused : (b u : List ℕ) (o : Outcome) {r : Reason} {i : ℕ} {k : ℤ} → o ≡ first (each n (belowAt block u n))
+      → o ≡ Refused r i k → o ≡ first (lowerPart b s g t u rest)
   below-refused b u o found refused = rw stand (first-refused _ _ o (found ∙ ap first (below-tests u)) refused)
 
-  pub lower-found : {b : List ℕ} → Sized b s g → (a u : List ℕ) (o x : Outcome) → x ≡ first (each n (belowAt l u n)) → x ≡ Accepted
-      → o ≡ first (eachEntry s g (sideAt Lower b s g a l n)) → o ≡ first (lowerPart b s g t u rest)
+  pub lower-found : {b : List ℕ} → Sized b s g → (a u : List ℕ) (o x : Outcome) → x ≡ first (each n (belowAt block u n)) → x ≡ Accepted
+      → o ≡ first (eachEntry s g (sideAt Lower b s g a block n)) → o ≡ first (lowerPart b s g t u rest)
   lower-found sized a u o x below passed found =
       rw stand (first-rest _ _ o x (below ∙ ap first (below-tests u)) passed (found ∙ ap first (lower-tests sized a)))
 
@@ -139,80 +147,74 @@ pub upper-found : (b : List ℕ) (s g : ℕ) (a u : List ℕ) {t k : Bool} (o : 
     → o ≡ first (eachEntry s g (sideAt (cond k StrictUpper Upper) b s g a u 0)) → o ≡ first (upperPart b s g t a u)
 upper-found b s g a u {k = k} o is found = rw is (found ∙ ap first (uppers-by-side b s g k a u))
 
--- 27 in a block of mean steps whose values the list l has.
-pub means-found : {b : List ℕ} {s g : ℕ} → Sized b s g → {block l : List ℕ} {n : ℕ} → n ≡ rowsIn s g → Values block n l
-    → (u : List ℕ) (from : ℕ) (o : Outcome) → o ≡ first (eachRow s g (meanAt b s g u l from))
-    → o ≡ first (meanTests (rulesOf b) s g (entries s g u) (rowsOfBlock g block) from)
-means-found {b} {s} {g} sized {block} {l} e values u from o found =
-    found
-    ∙ ap first (means-by-row b s g u l from
-    ∙ mean-same (sized-model sized) from (itself (entries s g u)) (values-rows s g (rw e at values)))
-
 -- 27 by the rest of the file.
 module _ (b : List ℕ) (s g : ℕ) (h : Shape) (u rest : List ℕ) where
-  pub no-means : hasMeans h ≡ false → Accepted ≡ first (restMeans b s g h (entries s g u) rest)
+  pub no-means : hasMeans h ≡ false → Accepted ≡ first (restMeans b s g h (uppersOf s g u) rest)
   unfolding restMeans
   no-means e = rw e (sym first-empty)
 
   module _ {n : ℕ} (o : Outcome) (stand : hasMeans h ≡ true) (e : n ≡ entriesIn s g) where
     pub means-after-lowers : hasLowers h ≡ true
-        → o ≡ first (meanTests (rulesOf b) s g (entries s g u) (rowsOfBlock g (take (length rest - 8 * n) (drop (8 * n) rest))) (n + n))
-        → o ≡ first (restMeans b s g h (entries s g u) rest)
+        → o ≡ first (eachRow s g (meanAt b s g u (take (length rest - 8 * n) (drop (8 * n) rest)) (n + n)))
+        → o ≡ first (restMeans b s g h (uppersOf s g u) rest)
     unfolding restMeans meansBlock meansFrom
-    means-after-lowers lowers found = rw (stand, lowers) (rw (part-from rest e, e) at found)
+    means-after-lowers lowers found = rw (stand, lowers) ((rw (part-from rest e, e) at found) ∙ ap first (means-by-row b s g u _ _))
 
-    pub means-alone : hasLowers h ≡ false → o ≡ first (meanTests (rulesOf b) s g (entries s g u) (rowsOfBlock g rest) n)
-        → o ≡ first (restMeans b s g h (entries s g u) rest)
+    pub means-alone : hasLowers h ≡ false → o ≡ first (eachRow s g (meanAt b s g u rest n))
+        → o ≡ first (restMeans b s g h (uppersOf s g u) rest)
     unfolding restMeans meansBlock meansFrom
-    means-alone lowers found = rw (stand, lowers) (rw e at found)
+    means-alone lowers found = rw (stand, lowers) ((rw e at found) ∙ ap first (means-by-row b s g u _ _))
 
 -- ---- the parts in a row: the first that refuses decides
 
 module _ (b : List ℕ) (s g : ℕ) (h : Shape) (a u rest : List ℕ) {t : Bool} (is : t ≡ hasLowers h) where
-  parts : restTests b s g h (entries s g a) (entries s g u) rest
-      ≡ deadPart s g t a rest ++ (upperPart b s g t a u ++ (lowerPart b s g t u rest ++ restMeans b s g h (entries s g u) rest))
+  parts : restTests b s g h (exitMarks g a) (uppersOf s g u) rest
+      ≡ deadPart s g t a rest ++ (upperPart b s g t a u ++ (lowerPart b s g t u rest ++ restMeans b s g h (uppersOf s g u) rest))
   unfolding restTests
   parts = rw (append-assoc, is)
 
   pub dead-decides : (o : Outcome) {r : Reason} {i : ℕ} {k : ℤ} → o ≡ first (deadPart s g t a rest) → o ≡ Refused r i k
-      → o ≡ first (restTests b s g h (entries s g a) (entries s g u) rest)
+      → o ≡ first (restTests b s g h (exitMarks g a) (uppersOf s g u) rest)
   dead-decides o found refused = rw parts (first-refused _ _ o found refused)
 
   module _ {x : Outcome} (dead : x ≡ first (deadPart s g t a rest)) (dead-passed : x ≡ Accepted) where
     pub uppers-decide : (o : Outcome) {r : Reason} {i : ℕ} {k : ℤ} → o ≡ first (upperPart b s g t a u) → o ≡ Refused r i k
-        → o ≡ first (restTests b s g h (entries s g a) (entries s g u) rest)
+        → o ≡ first (restTests b s g h (exitMarks g a) (uppersOf s g u) rest)
     uppers-decide o found refused = rw parts (first-rest _ _ o x dead dead-passed (first-refused _ _ o found refused))
 
     module _ {y : Outcome} (uppers : y ≡ first (upperPart b s g t a u)) (uppers-passed : y ≡ Accepted) where
       pub lowers-decide : (o : Outcome) {r : Reason} {i : ℕ} {k : ℤ} → o ≡ first (lowerPart b s g t u rest) → o ≡ Refused r i k
-          → o ≡ first (restTests b s g h (entries s g a) (entries s g u) rest)
+          → o ≡ first (restTests b s g h (exitMarks g a) (uppersOf s g u) rest)
       lowers-decide o found refused =
           rw parts (first-rest _ _ o x dead dead-passed (first-rest _ _ o y uppers uppers-passed (first-refused _ _ o found refused)))
 
       pub means-decide : (o z : Outcome) → z ≡ first (lowerPart b s g t u rest) → z ≡ Accepted
-          → o ≡ first (restMeans b s g h (entries s g u) rest) → o ≡ first (restTests b s g h (entries s g a) (entries s g u) rest)
+          → o ≡ first (restMeans b s g h (uppersOf s g u) rest) → o ≡ first (restTests b s g h (exitMarks g a) (uppersOf s g u) rest)
       means-decide o z lowers lowers-passed found =
           rw parts
           (first-rest _ _ o x dead dead-passed (first-rest _ _ o y uppers uppers-passed (first-rest _ _ o z lowers lowers-passed found)))
 
--- 23 in the uppers, then the rest: a lists the marks of the model b, and u the uppers of the delivery d.
-module _ {b : List ℕ} {s g : ℕ} (sized : Sized b s g) (h : Shape) (d a : List ℕ) {u : List ℕ} {n : ℕ} (e : n ≡ entriesIn s g)
-    (marks : Same s g (entries s g a) (alive (rulesOf b) s g)) (values : Values d n u) where
-  number-parts : numberTests b s g h d
-      ≡ each n (deadAt a u 0)
-      ++ restTests b s g h (entries s g a) (entries s g u) (take (length d - 8 * n) (drop (8 * n) d))
-  number-parts =
-      let uppers = values-same s g (rw e at values) in
-      rw (part-from d e, e)
-      (numbers-by-rest b (sized-model sized) h d
-      ∙ sym (ap₂ _++_ (dead-by-number s g a u 0 ∙ dead-same 0 marks uppers) (rest-same b (sized-model sized) h _ marks uppers)))
+-- 23 in the uppers, then the rest: a lists the marks of the model b by rows.
+module _ {b : List ℕ} {s g : ℕ} (sized : Sized b s g) (h : Shape) (d : List ℕ) {a : List ℕ} {n : ℕ} (e : n ≡ entriesIn s g)
+    (marks : ExitsOf s g (alive (rulesOf b) s g) a) where
+  abbrev uppers : List ℕ
+  uppers = take (8 * n) d
 
-  pub dead-uppers-decide : (o : Outcome) {r : Reason} {i : ℕ} {k : ℤ} → o ≡ first (each n (deadAt a u 0)) → o ≡ Refused r i k
-      → o ≡ first (numberTests b s g h d)
+  number-parts : numberTests b s g h d
+      ≡ eachEntry s g (deadAt s g a uppers 0)
+      ++ restTests b s g h (exitMarks g a) (uppersOf s g uppers) (take (length d - 8 * n) (drop (8 * n) d))
+  number-parts =
+      rw (part-from d e)
+      (numbers-by-rest b (sized-model sized) h d
+      ∙ sym (ap₂ _++_ (dead-by-entry s g a uppers 0 ∙ dead-same 0 (marks .marks) (part-same s g d e))
+      (rest-same b (sized-model sized) h _ (marks .marks) (part-same s g d e))))
+
+  pub dead-uppers-decide : (o : Outcome) {r : Reason} {i : ℕ} {k : ℤ} → o ≡ first (eachEntry s g (deadAt s g a uppers 0))
+      → o ≡ Refused r i k → o ≡ first (numberTests b s g h d)
   dead-uppers-decide o found refused = rw number-parts (first-refused _ _ o found refused)
 
-  pub rest-decides : (o x : Outcome) → x ≡ first (each n (deadAt a u 0)) → x ≡ Accepted
-      → o ≡ first (restTests b s g h (entries s g a) (entries s g u) (take (length d - 8 * n) (drop (8 * n) d)))
+  pub rest-decides : (o x : Outcome) → x ≡ first (eachEntry s g (deadAt s g a uppers 0)) → x ≡ Accepted
+      → o ≡ first (restTests b s g h (exitMarks g a) (uppersOf s g uppers) (take (length d - 8 * n) (drop (8 * n) d)))
       → o ≡ first (numberTests b s g h d)
   rest-decides o x dead passed found = rw number-parts (first-rest _ _ o x dead passed found)
 
@@ -263,13 +265,13 @@ module _ (b d : List ℕ) where
     unfolding shownMargin
     shown-with-lowers shape has found = rw (accepted, ← states, ← symbols, shape, has, found)
 
--- a lists the live marks of the model b, and u the uppers of the delivery d.
-module _ {b : List ℕ} {s g : ℕ} (sized : Sized b s g) (d a : List ℕ) {u : List ℕ} {n : ℕ} (e : n ≡ entriesIn s g)
-    (marks : Same s g (entries s g a) (alive (rulesOf b) s g)) (values : Values d n u) where
-  pub accepted-strict : {h : Shape} → verdict b d ≡ Accepted → shapeOf s g d ≡ Of h → hasLowers h ≡ true → Strict b s g a u
-  accepted-strict = strict-of d a u sized marks (values-same s g (rw e at values))
+-- a lists the live marks of the model b by rows.
+module _ {b : List ℕ} {s g : ℕ} (sized : Sized b s g) (d : List ℕ) {a : List ℕ} {n : ℕ} (e : n ≡ entriesIn s g)
+    (marks : ExitsOf s g (alive (rulesOf b) s g) a) where
+  pub accepted-strict : {h : Shape} → verdict b d ≡ Accepted → shapeOf s g d ≡ Of h → hasLowers h ≡ true → Strict b s g a (take (8 * n) d)
+  accepted-strict = strict-of d a (take (8 * n) d) sized (marks .marks) (part-same s g d e)
 
-  pub margin-found : {m : ℕ} → m ≡ leastShare b s g a u → m ≡ marginOf b d
+  pub margin-found : {m : ℕ} → m ≡ leastShare b s g a (take (8 * n) d) → m ≡ marginOf b d
   unfolding marginOf
   margin-found found =
-      found ∙ rw (← sized .states, ← sized .symbols) (least-share d a u sized marks (values-same s g (rw e at values)))
+      found ∙ rw (← sized .states, ← sized .symbols) (least-share d a (take (8 * n) d) sized (marks .marks) (part-same s g d e))

@@ -1,28 +1,19 @@
 -- Every test of numbers after that of dead uppers, by the rest of the file: its part from record V on, which the lower and mean-step checks
 -- take. `uppersOf` reads the first V values of any bytes, so of the rest it reads the lowers.
-use Prim.Native.Nat.{ℕ, _+_, _*_, _≤_, _<_}
+use Prim.Native.Nat.{ℕ, _*_}
 use mathlib.Core.Bool.{true, cond}
 use mathlib.Core.List.{List, _++_}
 use mathlib.Core.Path.{_≡_}
-use lib.ListN.{length, drop}
+use lib.ListN.{take, drop}
 use Rattle.outcome.specs.Tests.{Test}
-use Rattle.ppda.specs.Equations.{Vector, RowVector}
+use Rattle.ppda.specs.Equations.{Vector}
 use Rattle.model.specs.Rules.{rulesOf}
 use Rattle.delivery.specs.declared.shape.Shape.{Shape}
-use Rattle.delivery.specs.Records.{valueOf}
 use Rattle.delivery.specs.Shapes.{entriesIn, rowsIn, hasLowers, hasMeans, meansFrom}
-use Rattle.delivery.specs.Numbers.{rowAt, uppersOf}
+use Rattle.delivery.specs.Numbers.{uppersOf, rowsOfBlock}
 use Rattle.delivery.specs.Layout.{onlyIf}
+use Rattle.delivery.specs.Walks.{Within}
 use Rattle.inequalities.specs.Inequalities.{deadTests, upperTests, belowTests, lowerTests, meanTests}
-
--- The bytes start with n records whose values are at most a.
-pub record BlockRead (d : List ℕ) (n a : ℕ) : Type 0 where
-  pub whole : 8 * n ≤ length d
-  pub most : (e : ℕ) → e < n → valueOf d e ≤ a
-
--- The mean steps of a block: its values, by rows.
-abbrev pub rowsOfBlock : ℕ → List ℕ → RowVector
-rowsOfBlock g d p z = valueOf d (rowAt g p z)
 
 -- The block of mean steps in the rest of a file: after the lowers, if there are any.
 unfoldable pub meansBlock : ℕ → ℕ → Shape → List ℕ → List ℕ
@@ -30,8 +21,8 @@ meansBlock s g h rest = cond (hasLowers h) (drop (8 * entriesIn s g) rest) rest
 
 -- The rest of a file of shape h has its lowers and its mean steps, each in range.
 pub record RestRead (s g : ℕ) (h : Shape) (rest : List ℕ) : Type 0 where
-  pub lowers : hasLowers h ≡ true → BlockRead rest (entriesIn s g) 2097152
-  pub means : hasMeans h ≡ true → BlockRead (meansBlock s g h rest) (rowsIn s g) 4194304
+  pub lowers : hasLowers h ≡ true → Within (take (8 * entriesIn s g) rest) (entriesIn s g) 2097152
+  pub means : hasMeans h ≡ true → Within (meansBlock s g h rest) (rowsIn s g) 4194304
 
 -- 27, by the rest of the file.
 unfoldable pub restMeans : List ℕ → ℕ → ℕ → Shape → Vector → List ℕ → List Test

@@ -1,10 +1,9 @@
 // The margin of an accepted delivery with lowers, for `margin` and for the register.
 
-use delivery::numbers::values;
 use delivery::shape::Shape;
 use delivery::shape::entries;
-use equations::live::marks;
-use equations::rows::starts;
+use equations::live::find_marks;
+use equations::rows::find_starts;
 use inequalities::margin::margin_of;
 ghost use mathlib.Core.Path.{_≡_};
 ghost use mathlib.Core.Bool.{true};
@@ -20,8 +19,10 @@ pub fn margin_with_lowers(model: &[u8], delivery: &[u8], s: usize, g: usize, sha
     requires { ⌜ Sized (now model) s g × (shapeOf s g (now delivery) ≡ Of shape) × (hasLowers shape ≡ true) × (verdict (now model) (now delivery) ≡ Accepted) ⌝ }
     ensures { λ r. ⌜ r ≡ marginOf (now (model .entry)) (now (delivery .entry)) ⌝ }
 {
-    let starts = starts(model, s, g);
-    let live = marks(model, &starts, s, g);
-    let uppers = values(delivery, entries(s, g));
-    margin_of(model, &starts, &live, &uppers, s, g)
+    let mut starts = [0u16; 129];
+    find_starts(model, s, g, &mut starts);
+    let mut live = [0u8; 128];
+    find_marks(model, &starts, s, g, &mut live);
+    let uppers = &delivery[..8 * entries(s, g)];
+    margin_of(model, &starts, &live, uppers, s, g)
 }

@@ -1,6 +1,6 @@
 -- The outcome of the layout's tests, record by record and block by block, as the code finds it.
-use Prim.Native.Nat.{ℕ, _+_, _*_, _/_, _%_, _<_}
-use native.Mathlib.Nat.{zero-add, div-add-mod'}
+use Prim.Native.Nat.{ℕ, _+_, _*_}
+use native.Mathlib.Nat.{zero-add}
 use native.Mathlib.Omega.{arith}
 use mathlib.Core.Bool.{Bool, true, false}
 use mathlib.Core.List.{List}
@@ -15,9 +15,8 @@ use Rattle.delivery.specs.declared.shape.Block.the-variants.{Uppers, Low
 use Rattle.delivery.specs.declared.shape.Shape.{Shape}
 use Rattle.delivery.specs.Numbers.{entryAt}
 use Rattle.delivery.specs.Shapes.{entriesIn, hasLowers, hasMeans, meansFrom}
-use Rattle.delivery.specs.Layout.{eachEntry, onlyIf, isDue, inRange, recordTests, upperRecords, lowerRecords, meanRecords, layoutTests}
-use Rattle.delivery.specs.Walks.{rowOfBlock}
-use Rattle.delivery.proofs.Walks.{rows-by-number, entries-by-row}
+use Rattle.delivery.specs.Layout.{eachEntry, eachRow, onlyIf, isDue, inRange, recordTests, upperRecords, lowerRecords, meanRecords, layoutTests}
+use Rattle.delivery.specs.Walks.{stateOfBlock}
 
 -- The outcome of a record by its tests, in their order.
 module _ (d : List ℕ) (i : ℕ) (k : Block) (p z q : ℕ) where
@@ -33,39 +32,38 @@ module _ (d : List ℕ) (i : ℕ) (k : Block) (p z q : ℕ) where
   unfolding recordTests first
   record-passes e f = rw (e, f)
 
--- The records of a block of entries that starts at record `from`, row by row.
-entries-walked : (s g from : ℕ) (d : List ℕ) (b : Block) (at : ℕ → ℕ) → 0 < g → ((i : ℕ) → at i ≡ from + i)
-    → eachEntry s g (λ p z q. recordTests d (at (entryAt s g p z q)) b p z q) ≡ each (s * g) (rowOfBlock d b from s g)
-entries-walked s g from d b at some e =
-    entries-by-row s g (λ p z q. recordTests d (at (entryAt s g p z q)) b p z q) some
-    ∙ each-cong _ _ (s * g) (λ k lk. each-cong _ _ s (λ q lq. ap (λ i. recordTests d i b (k / g) (k % g) q) (place k q)))
+-- The records of a block of entries that starts at record `from`, state by state.
+entries-walked : (s g from : ℕ) (d : List ℕ) (b : Block) (at : ℕ → ℕ) → ((i : ℕ) → at i ≡ from + i)
+    → eachEntry s g (λ p z q. recordTests d (at (entryAt s g p z q)) b p z q) ≡ each s (stateOfBlock d b from s g)
+unfolding eachEntry
+entries-walked s g from d b at e =
+    each-cong _ _ s (λ p lp. each-cong _ _ g (λ z lz. each-cong _ _ s (λ q lq. ap (λ i. recordTests d i b p z q) (place p z q))))
   where
-    place : (k q : ℕ) → at (entryAt s g (k / g) (k % g) q) ≡ from + k * s + q
-    place k q = e (entryAt s g (k / g) (k % g) q) ∙ rw (div-add-mod' k g) (omega arith)
+    place : (p z q : ℕ) → at (entryAt s g p z q) ≡ from + p * g * s + z * s + q
+    place p z q = e (entryAt s g p z q) ∙ omega arith
 
-pub uppers-walked : (s g : ℕ) (d : List ℕ) → 0 < g → upperRecords s g d ≡ each (s * g) (rowOfBlock d Uppers 0 s g)
+pub uppers-walked : (s g : ℕ) (d : List ℕ) → upperRecords s g d ≡ each s (stateOfBlock d Uppers 0 s g)
 unfolding upperRecords
-uppers-walked s g d some = entries-walked s g 0 d Uppers (λ i. i) some (λ i. sym (zero-add i))
+uppers-walked s g d = entries-walked s g 0 d Uppers (λ i. i) (λ i. sym (zero-add i))
 
-pub lowers-walked : (s g : ℕ) (d : List ℕ) {from : ℕ} → 0 < g → from ≡ entriesIn s g
-    → lowerRecords s g d ≡ each (s * g) (rowOfBlock d Lowers from s g)
+pub lowers-walked : (s g : ℕ) (d : List ℕ) {from : ℕ} → from ≡ entriesIn s g
+    → lowerRecords s g d ≡ each s (stateOfBlock d Lowers from s g)
 unfolding lowerRecords
-lowers-walked s g d {from} some e = entries-walked s g from d Lowers (λ i. entriesIn s g + i) some (λ i. ap (λ k. k + i) (sym e))
+lowers-walked s g d {from} e = entries-walked s g from d Lowers (λ i. entriesIn s g + i) (λ i. ap (λ k. k + i) (sym e))
 
 each-one : (h : ℕ → List Test) → each 1 h ≡ h 0
 unfolding each
 each-one h = refl
 
 -- A row of mean steps is one record.
-pub means-walked : (s g : ℕ) (h : Shape) (d : List ℕ) {from : ℕ} → 0 < g → from ≡ meansFrom s g h
-    → meanRecords s g h d ≡ each (s * g) (rowOfBlock d Means from 1 g)
-unfolding meanRecords
-means-walked s g h d {from} some e =
-    rows-by-number s g _ some
-    ∙ each-cong _ _ (s * g) (λ k lk. ap (λ i. recordTests d i Means (k / g) (k % g) 0) (place k) ∙ sym (each-one _))
+pub means-walked : (s g : ℕ) (h : Shape) (d : List ℕ) {from : ℕ} → from ≡ meansFrom s g h
+    → meanRecords s g h d ≡ each s (stateOfBlock d Means from 1 g)
+unfolding meanRecords eachRow
+means-walked s g h d {from} e =
+    each-cong _ _ s (λ p lp. each-cong _ _ g (λ z lz. ap (λ i. recordTests d i Means p z 0) (place p z) ∙ sym (each-one _)))
   where
-    place : (k : ℕ) → meansFrom s g h + (k / g * g + k % g) ≡ from + k * 1 + 0
-    place k = rw (div-add-mod' k g) (omega arith)
+    place : (p z : ℕ) → meansFrom s g h + (p * g + z) ≡ from + p * g * 1 + z * 1 + 0
+    place p z = omega arith
 
 -- Tests that stand only where a block does.
 pub where-it-stands : (t : Bool) (ts : List Test) → t ≡ true → first (onlyIf t ts) ≡ first ts

@@ -1,4 +1,4 @@
--- Two ways through a block: nested by state, symbol and exit, as the tests are defined, and number by number, as the code goes.
+-- Two ways through a block: nested by state, symbol and exit, as the tests are defined, and number by number, as the crates above go.
 -- Besides, the values past the first records, and the list of values that a loop fills.
 use Prim.Native.Nat.{ℕ, zero, suc, _+_, _*_, _/_, _%_, _<_}
 use native.Mathlib.Nat.{add-zero, add-suc, zero-mul, suc-mul}

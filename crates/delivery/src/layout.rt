@@ -7,7 +7,6 @@ use super::shape::entries;
 use super::shape::has_lowers;
 use super::shape::has_means;
 use super::shape::means_from;
-use super::shape::rows;
 use outcome::Outcome;
 ghost use mathlib.Core.Path.{_≡_};
 ghost use Prim.Native.Nat.{_+_, _*_, _≤_, _<_};
@@ -16,7 +15,7 @@ ghost use Rattle.outcome.specs.Tests.{first, each};
 ghost use Rattle.delivery.specs.declared.shape.Shaped.the-variants.{Of};
 ghost use Rattle.delivery.specs.Shapes.{shapeOf, hasLowers};
 ghost use Rattle.delivery.specs.Layout.{onlyIf, lowerRecords, layoutTests};
-ghost use Rattle.delivery.specs.Walks.{recordOfRow, rowOfBlock};
+ghost use Rattle.delivery.specs.Walks.{recordOfRow, rowOfState, stateOfBlock};
 
 // The records of one row of a block, from record `at` on: one for each of the exits.
 fn check_row(delivery: &[u8], block: Block, at: usize, exits: usize, p: usize, z: usize) -> Outcome
@@ -34,6 +33,29 @@ fn check_row(delivery: &[u8], block: Block, at: usize, exits: usize, p: usize, z
     Outcome::Accepted
 }
 
+// The records of state p, from record `at` on.
+fn check_state(
+    delivery: &[u8],
+    block: Block,
+    at: usize,
+    exits: usize,
+    g: usize,
+    p: usize,
+) -> Outcome
+    requires { ⌜ (8 * (at + g * exits) ≤ length (now delivery)) × (g < 17) × (exits < 9) × (at ≤ 4096) ⌝ }
+    ensures { λ r. ⌜ r ≡ first (each g (rowOfState (now (delivery .entry)) block at exits p)) ⌝ }
+{
+    let mut z = 0;
+    while z < g {
+        let found = check_row(delivery, block, at + z * exits, exits, p, z);
+        if let Outcome::Refused { .. } = found {
+            return found;
+        }
+        z += 1;
+    }
+    Outcome::Accepted
+}
+
 // The records of one block, which starts at record `from`.
 fn check_block(
     delivery: &[u8],
@@ -43,17 +65,16 @@ fn check_block(
     s: usize,
     g: usize,
 ) -> Outcome
-    requires { ⌜ (8 * (from + s * g * exits) ≤ length (now delivery)) × (s < 9) × (0 < g) × (g < 17) × (exits < 9) × (from ≤ 2048) ⌝ }
-    ensures { λ r. ⌜ r ≡ first (each (s * g) (rowOfBlock (now (delivery .entry)) block from exits g)) ⌝ }
+    requires { ⌜ (8 * (from + s * g * exits) ≤ length (now delivery)) × (s < 9) × (g < 17) × (exits < 9) × (from ≤ 2048) ⌝ }
+    ensures { λ r. ⌜ r ≡ first (each s (stateOfBlock (now (delivery .entry)) block from exits g)) ⌝ }
 {
-    let n = rows(s, g);
-    let mut k = 0;
-    while k < n {
-        let found = check_row(delivery, block, from + k * exits, exits, k / g, k % g);
+    let mut p = 0;
+    while p < s {
+        let found = check_state(delivery, block, from + p * g * exits, exits, g, p);
         if let Outcome::Refused { .. } = found {
             return found;
         }
-        k += 1;
+        p += 1;
     }
     Outcome::Accepted
 }

@@ -1,9 +1,19 @@
 // The numbers of a block.
 
 use super::record::value_of;
-ghost use Prim.Native.Nat.{_*_, _≤_};
+ghost use mathlib.Core.Path.{_≡_};
+ghost use Prim.Native.Nat.{_+_, _*_, _≤_, _<_, _^_};
 ghost use lib.ListN.{length};
+ghost use Rattle.delivery.specs.Records.{valueOf};
 ghost use Rattle.delivery.specs.Walks.{Values};
+
+// The value of record e.
+pub fn value(block: &[u8], e: usize) -> u64
+    requires { ⌜ 8 * e + 7 < length (now block) ⌝ }
+    ensures { λ r. ⌜ (r ≡ valueOf (now (block .entry)) e) × (r < 2 ^ 32) ⌝ }
+{
+    value_of(block, e)
+}
 
 // The values of the first n records, in their order, and 0 from there on.
 pub fn values(block: &[u8], n: usize) -> [u32; 1024]

@@ -1,5 +1,5 @@
 -- Rounds of marks in a list are the theory's rounds, and once a round changes nothing no later round does.
-use Prim.Native.Nat.{ℕ, zero, suc, _+_, _*_, _≤_, _<_}
+use Prim.Native.Nat.{ℕ, zero, suc, _+_, _*_, _/_, _%_, _≤_, _<_}
 use native.Mathlib.Nat.{eq-or-lt-of-le, le-of-suc-le-suc}
 use native.Mathlib.Numerals.{add-one}
 use native.Mathlib.Omega.{arith}
@@ -8,72 +8,56 @@ use mathlib.Core.List.{List}
 use mathlib.Core.Logic.{_⊎_, inl, inr}
 use mathlib.Core.Path.{_≡_, refl, sym, ap, _∙_}
 use lib.Dec.{eqb}
-use lib.ListN.{getD, set, replicate, length-set, length-replicate}
+use lib.ListN.{length, getD, set, replicate, length-set, length-replicate}
 use lib.Seq.{getD-set-same, getD-set-other}
 use borrow.Author.Tests.{eqb-true, eqb-false}
 use Rattle.ppda.specs.Sums.{sign}
 use Rattle.ppda.specs.Rules.{Rule, IsModel}
-use Rattle.ppda.specs.Equations.{Vector, entries, f}
+use Rattle.ppda.specs.Equations.{entries, f}
 use Rattle.ppda.specs.Live.{mark, alive}
 use Rattle.model.specs.Rules.{rulesOf}
 use Rattle.ppda.proofs.Lists.{getD-zeros}
-use Rattle.ppda.proofs.Places.{entry-once, entry-below}
-use Rattle.equations.specs.Held.{Sized, AtMost, Same, Marks}
-use Rattle.equations.specs.Rounds.{nextMark, RoundTo}
-use Rattle.equations.proofs.Ranges.{sized-model}
+use Rattle.ppda.proofs.Places.{row-at, row-below, entry-below}
+use Rattle.equations.specs.Exits.{bitOf, exitMarks}
+use Rattle.equations.specs.Held.{Sized, Same, ExitsOf, Marks}
+use Rattle.equations.specs.Rounds.{nextMark, NextExits, RoundTo}
+use Rattle.equations.proofs.Exits.{bit-none}
+use Rattle.equations.proofs.Ranges.{set-more, sized-model}
 use Rattle.equations.proofs.Vectors.{f-same}
 
-pub sign-none : (n : ℕ) → n ≤ 0 → sign n ≡ 0
-unfolding sign
-sign-none n h = let e : n ≡ 0 = omega arith in rw e
-
--- ---- one round, entry by entry
-
-pub zeros-most : (a n : ℕ) → AtMost a (replicate n 0)
-zeros-most a n e = rw (getD-zeros n e) (omega arith)
+-- ---- one round, row by row
 
 module _ {b : List ℕ} {s g : ℕ} {marks : List ℕ} where
-  pub round-none : (n : ℕ) → n ≡ 1024 → RoundTo b s g marks 0 (replicate n 0)
-  round-none n e =
-      record { size = length-replicate n 0 ∙ e; small = zeros-most 1 n; done = λ p z q hp hz hq h. absurd (omega arith); none = λ e h. getD-zeros n e }
+  pub round-none : {l : List ℕ} → length l ≡ 128 → RoundTo b s g marks 0 l
+  round-none size = record { size = size; done = λ p z hp hz h. absurd (omega arith) }
 
-  -- One entry more.
-  pub round-more : {l : List ℕ} {z q n m : ℕ} (p : ℕ) → RoundTo b s g marks n l → p < s → z < g → q < s → n ≡ (p * g + z) * s + q → n < 1024
-      → m ≡ nextMark b s g marks p z q → m ≤ 1 → RoundTo b s g marks (n + 1) (set l n m)
-  round-more {l} {z} {q} {n} {m} p to hp hz hq place below same bit =
-      record {
-        size = length-set l n m ∙ to .size;
-        small = λ i. small i (eqb i n) refl;
-        done = λ p′ z′ q′ hp′ hz′ hq′ h. done p′ z′ q′ hp′ hz′ hq′ h (eqb ((p′ * g + z′) * s + q′) n) refl;
-        none = λ e h. getD-set-other l n e m 0 (λ u. omega (arith, entry-below s g p z q hp hz hq)) ∙ to .none e h;
-      }
+  -- One row more.
+  pub round-more : {l : List ℕ} {n : ℕ} (m : ℕ) → RoundTo b s g marks n l → n < 128 → NextExits b s g marks (n / g) (n % g) m
+      → RoundTo b s g marks (n + 1) (set l n m)
+  round-more {l} {n} m to below next =
+      record { size = length-set l n m ∙ to .size; done = λ p z hp hz h. done p z hp hz h (eqb (p * g + z) n) refl }
     where
-      small : (i : ℕ) (t : Bool) → eqb i n ≡ t → getD (set l n m) i 0 ≤ 1
-      small i true u = rw (eqb-true i n u, getD-set-same l n m 0 (omega (arith, to .size))) bit
-      small i false u = rw (getD-set-other l n i m 0 (eqb-false i n u)) (to .small i)
+      done : (p z : ℕ) → p < s → z < g → p * g + z < n + 1 → (t : Bool) → eqb (p * g + z) n ≡ t
+          → NextExits b s g marks p z (getD (set l n m) (p * g + z) 0)
+      done p z hp hz h true u =
+          let e : p * g + z ≡ n = eqb-true (p * g + z) n u in
+          let (state, symbol) = row-at g p z hz in
+          let here = rw (← e, state, symbol) at next in
+          rw (e, getD-set-same l n m 0 (omega (arith, to .size))) here
+      done p z hp hz h false u =
+          let other = eqb-false (p * g + z) n u in
+          rw (getD-set-other l n (p * g + z) m 0 other) (to .done p z hp hz (omega arith))
 
-      done : (p′ z′ q′ : ℕ) → p′ < s → z′ < g → q′ < s → (p′ * g + z′) * s + q′ < n + 1 → (t : Bool) → eqb ((p′ * g + z′) * s + q′) n ≡ t
-          → getD (set l n m) ((p′ * g + z′) * s + q′) 0 ≡ nextMark b s g marks p′ z′ q′
-      done p′ z′ q′ hp′ hz′ hq′ h true u =
-          let (first, second, last) = entry-once s g p′ z′ q′ p z q hz′ hq′ hz hq (eqb-true _ n u ∙ place) in
-          rw (eqb-true _ n u, getD-set-same l n m 0 (omega (arith, to .size)), first, second, last) same
-      done p′ z′ q′ hp′ hz′ hq′ h false u =
-          let other = eqb-false _ n u in
-          rw (getD-set-other l n ((p′ * g + z′) * s + q′) m 0 other) (to .done p′ z′ q′ hp′ hz′ hq′ (omega arith))
-
-  -- The same entries, counted in another way.
+  -- The same rows, counted in another way.
   pub round-at : {l : List ℕ} {n n′ : ℕ} → RoundTo b s g marks n l → n ≡ n′ → RoundTo b s g marks n′ l
   round-at to e = rw e at to
 
 -- ---- all rounds
 
-pub no-marks : (m : List Rule) (s g n : ℕ) → Same s g (entries s g (replicate n 0)) (mark m s 0)
+pub no-exits : (m : List Rule) (s g : ℕ) {l : List ℕ} → l ≡ replicate 128 0 → ExitsOf s g (mark m s 0) l
 unfolding mark
-no-marks m s g n p z q hp hz hq = getD-zeros n ((p * g + z) * s + q)
-
-pub zero-marks : {v : Vector} (s g n : ℕ) → n ≡ 1024 → Same s g (entries s g (replicate n 0)) v → Marks s g v (replicate n 0)
-zero-marks s g n size same =
-    record { size = length-replicate n 0 ∙ size; small = zeros-most 1 n; marks = same; none = λ e h. getD-zeros n e }
+no-exits m s g e =
+    rw e (record { size = length-replicate {A = ℕ} 128 0; marks = λ p z q hp hz hq. rw (getD-zeros 128 (p * g + z)) (bit-none q) })
 
 mark-next : (m : List Rule) (s k p z q : ℕ) → mark m s (k + 1) p z q ≡ sign (f m s 1 (mark m s k) p z q)
 unfolding mark
@@ -95,38 +79,72 @@ module _ {m : List Rule} {s g : ℕ} (model : IsModel s g m) (k : ℕ) (still : 
           ∙ ap (λ n. mark m s n p z q) (add-one j)
 
 -- The list has the marks of k rounds.
-module _ {b : List ℕ} {s g : ℕ} (sized : Sized b s g) (marks : List ℕ) (k : ℕ) (held : Marks s g (mark (rulesOf b) s k) marks) where
-  same : Same s g (entries s g marks) (mark (rulesOf b) s k)
-  same = held .marks
-
-  -- The same list, by other marks.
-  other-marks : {v : Vector} → Same s g (entries s g marks) v → Marks s g v marks
-  other-marks e = record { size = held .size; small = held .small; marks = e; none = held .none }
-
+module _ {b : List ℕ} {s g : ℕ} (sized : Sized b s g) (marks : List ℕ) (k : ℕ) (held : ExitsOf s g (mark (rulesOf b) s k) marks) where
   -- One round more.
-  one-more : {next : List ℕ} → RoundTo b s g marks (s * g * s) next → Same s g (entries s g next) (mark (rulesOf b) s (k + 1))
+  one-more : {next : List ℕ} → RoundTo b s g marks (s * g) next → Same s g (exitMarks g next) (mark (rulesOf b) s (k + 1))
   unfolding nextMark
   one-more to p z q hp hz hq =
-      to .done p z q hp hz hq (entry-below s g p z q hp hz hq)
-      ∙ ap sign (f-same (sized-model sized) 1 (entries s g marks) (mark (rulesOf b) s k) same p z q hq)
+      to .done p z hp hz (row-below s g p z hp hz) q hq
+      ∙ ap sign (f-same (sized-model sized) 1 (exitMarks g marks) (mark (rulesOf b) s k) (held .marks) p z q hq)
       ∙ sym (mark-next (rulesOf b) s k p z q)
 
-  pub marks-next : {next : List ℕ} → RoundTo b s g marks (s * g * s) next → Marks s g (mark (rulesOf b) s (k + 1)) next
-  marks-next to = record { size = to .size; small = to .small; marks = one-more to; none = to .none }
+  -- The list that the next round is copied to.
+  pub marks-next : {next l : List ℕ} → RoundTo b s g marks (s * g) next → length l ≡ 128
+      → ((e : ℕ) → e < s * g → getD l e 0 ≡ getD next e 0) → ExitsOf s g (mark (rulesOf b) s (k + 1)) l
+  marks-next to size copied =
+      record {
+        size = size;
+        marks = λ p z q hp hz hq. ap (λ n. bitOf n q) (copied (p * g + z) (row-below s g p z hp hz)) ∙ one-more to p z q hp hz hq;
+      }
 
   -- As many rounds as there are entries, or a round that changes nothing, give the live marks.
-  pub marks-all : k ≡ s * g * s → Marks s g (alive (rulesOf b) s g) marks
+  pub marks-all : k ≡ s * g * s → ExitsOf s g (alive (rulesOf b) s g) marks
   unfolding alive
-  marks-all e = other-marks (λ p z q hp hz hq. same p z q hp hz hq ∙ ap (λ n. mark (rulesOf b) s n p z q) e)
+  marks-all e =
+      record { size = held .size; marks = λ p z q hp hz hq. held .marks p z q hp hz hq ∙ ap (λ n. mark (rulesOf b) s n p z q) e }
 
-  pub marks-unchanged : {next : List ℕ} → k ≤ s * g * s → RoundTo b s g marks (s * g * s) next
-      → ((e : ℕ) → e < s * g * s → getD marks e 0 ≡ getD next e 0) → Marks s g (alive (rulesOf b) s g) marks
+  pub marks-unchanged : {next : List ℕ} → k ≤ s * g * s → RoundTo b s g marks (s * g) next
+      → ((e : ℕ) → e < s * g → getD marks e 0 ≡ getD next e 0) → ExitsOf s g (alive (rulesOf b) s g) marks
   unfolding alive
   marks-unchanged l to unchanged =
-      other-marks (λ p z q hp hz hq. same p z q hp hz hq ∙ marks-stay (sized-model sized) k still (s * g * s) l p z q hp hz hq)
+      record {
+        size = held .size;
+        marks = λ p z q hp hz hq. held .marks p z q hp hz hq ∙ marks-stay (sized-model sized) k still (s * g * s) l p z q hp hz hq;
+      }
     where
       still : Same s g (mark (rulesOf b) s k) (mark (rulesOf b) s (k + 1))
       still p z q hp hz hq =
-          sym (same p z q hp hz hq)
-          ∙ unchanged ((p * g + z) * s + q) (entry-below s g p z q hp hz hq)
+          sym (held .marks p z q hp hz hq)
+          ∙ ap (λ n. bitOf n q) (unchanged (p * g + z) (row-below s g p z hp hz))
           ∙ one-more to p z q hp hz hq
+
+-- ---- the marks by entries
+
+-- The list has the marks of the entries before e, and 0 from there on.
+pub record EntriesTo (s : ℕ) (live : List ℕ) (e : ℕ) (l : List ℕ) : Type 0 where
+  pub size : length l ≡ 1024
+  pub done : (i : ℕ) → i < e → getD l i 0 ≡ bitOf (getD live (i / s) 0) (i % s)
+  pub none : (i : ℕ) → e ≤ i → getD l i 0 ≡ 0
+
+pub entries-none : (s : ℕ) (live : List ℕ) (n : ℕ) → n ≡ 1024 → EntriesTo s live 0 (replicate n 0)
+entries-none s live n size =
+    record { size = length-replicate n 0 ∙ size; done = λ i h. absurd (omega arith); none = λ i h. getD-zeros n i }
+
+module _ {s : ℕ} {live : List ℕ} {e : ℕ} {l : List ℕ} (to : EntriesTo s live e l) where
+  pub entries-more : {m : ℕ} → e < 1024 → m ≡ bitOf (getD live (e / s) 0) (e % s) → EntriesTo s live (e + 1) (set l e m)
+  entries-more {m} below here =
+      record {
+        size = length-set l e m ∙ to .size;
+        done = set-more (λ i n. n ≡ bitOf (getD live (i / s) 0) (i % s)) l (omega (arith, to .size)) (to .done) here;
+        none = λ i h. getD-set-other l e i m 0 (λ u. omega arith) ∙ to .none i (omega arith);
+      }
+
+  pub entries-all : (g : ℕ) → e ≡ s * g * s → Marks s g (exitMarks g live) l
+  entries-all g all =
+      record { size = to .size; marks = marks; none = λ i h. to .none i (omega arith) }
+    where
+      marks : Same s g (entries s g l) (exitMarks g live)
+      marks p z q hp hz hq =
+          let (row, exit) = row-at s (p * g + z) q hq in
+          to .done ((p * g + z) * s + q) (omega (arith, entry-below s g p z q hp hz hq))
+          ∙ rw (row, exit)

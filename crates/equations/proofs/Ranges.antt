@@ -12,12 +12,12 @@ use borrow.Author.Tests.{ltb-true, ltb-false}
 use borrow.Author.Count.{below-more}
 use Rattle.ppda.proofs.Places.{rows-most, entries-most}
 use Rattle.ppda.specs.Rules.{IsModel}
-use Rattle.model.specs.Records.{recordsOf, symbolsOf, target, top, under}
-use Rattle.model.proofs.Records.{states-most, symbols-most}
+use Rattle.model.specs.Records.{recordsOf, statesOf, symbolsOf, target, top, under}
+use Rattle.model.proofs.Records.{target-below, top-below, under-below, states-most, symbols-most}
 use Rattle.model.specs.Rules.{rulesOf, rowOf}
 use Rattle.model.proofs.Rows.{rows-ascend}
 use Rattle.model.proofs.Accepted.{is-model}
-use Rattle.equations.specs.Held.{Sized, StartsAt}
+use Rattle.equations.specs.Held.{Sized, StartsAt, Starts}
 
 -- An entry's place is one of 1,024.
 pub place : (row s q : ℕ) → row < 128 → s < 9 → q < 8 → row * s + q < 1024
@@ -25,12 +25,24 @@ place row s q hr hs hq =
     let most : row * s ≤ 127 * 8 = mul-le-mul {n₂ = 127} {m₂ = 8} (omega arith) (omega arith) in
     omega arith
 
+-- One number more of a list is as it should be.
+pub set-more : (P : ℕ → ℕ → Type 0) {k a : ℕ} (l : List ℕ) → k < length l → ((e : ℕ) → e < k → P e (getD l e 0)) → P k a
+    → (e : ℕ) → e < k + 1 → P e (getD (set l k a) e 0)
+set-more P {k} {a} l h before here =
+    below-more (λ e. P e (getD (set l k a) e 0)) k
+    (λ e m. rw (getD-set-other l k e a 0 (λ q. omega arith)) (before e m))
+    (rw (getD-set-same l k a 0 h) here)
+
 module _ {b : List ℕ} {s g : ℕ} (sized : Sized b s g) where
   pub few-states : s < 9
   few-states = omega (arith, sized .states, states-most b (sized .file .records .right))
 
   pub few-symbols : g < 17
   few-symbols = omega (arith, sized .symbols, symbols-most b (sized .file .records .right))
+
+  pub some-states : 0 < s
+  unfolding statesOf
+  some-states = omega (arith, sized .states)
 
   pub some-symbols : 0 < g
   unfolding symbolsOf
@@ -50,6 +62,10 @@ module _ {b : List ℕ} {s g : ℕ} (sized : Sized b s g) where
   record-sizes {i} l =
       let right = sized .file .records .right i l in
       omega (arith, few-states, few-symbols, right .target-range, right .top-range, right .under-range)
+
+  -- Record i names states and symbols of the model.
+  pub record-names : {i : ℕ} → i < recordsOf b → (target b i < s) × (top b i < g) × (under b i < g)
+  record-names {i} l = rw (sized .states, sized .symbols) (target-below b i l, top-below b i l, under-below b i l)
 
   -- The theory's model.
   pub sized-model : IsModel s g (rulesOf b)
@@ -74,10 +90,11 @@ starts-at-end all within before = record { within = within; before = before; aft
 -- The list says where one row more starts.
 pub starts-more : {b : List ℕ} {g k a : ℕ} (l : List ℕ) → k < length l → ((e : ℕ) → e < k → StartsAt b g e (getD l e 0))
     → StartsAt b g k a → (e : ℕ) → e < k + 1 → StartsAt b g e (getD (set l k a) e 0)
-starts-more {b} {g} {k} {a} l h before here =
-    below-more (λ e. StartsAt b g e (getD (set l k a) e 0)) k
-    (λ e m. rw (getD-set-other l k e a 0 (λ q. omega arith)) (before e m))
-    (rw (getD-set-same l k a 0 h) here)
+starts-more {b} {g} l h before here = set-more (StartsAt b g) l h before here
+
+-- A row starts at one of at most 1,024 records, or after the last.
+pub start-most : {b : List ℕ} {s g : ℕ} (l : List ℕ) → Sized b s g → Starts b g (s * g) l → (k : ℕ) → k ≤ s * g → getD l k 0 ≤ 1024
+start-most l sized starts k h = le-trans (starts k h .within) (sized .file .records .most)
 
 -- A row ends no earlier than it starts.
 pub starts-ascend : {b : List ℕ} {g k a e : ℕ} → StartsAt b g k a → StartsAt b g (k + 1) e → a ≤ e

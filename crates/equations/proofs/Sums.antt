@@ -1,31 +1,28 @@
 -- Sums record by record over one row's range are the theory's sums over the row, and stay within their limits.
-use Prim.Native.Nat.{ℕ, zero, suc, _+_, _*_, _^_, _≤_, _<_}
-use native.Mathlib.Nat.{le-refl, le-trans, zero-mul, eq-or-lt-of-le, le-of-suc-le-suc, mul-le-mul, mul-le-mul-left, mul-le-mul-right}
+use Prim.Native.Nat.{ℕ, zero, suc, _+_, _*_, _/_, _%_, _≤_, _<_}
+use native.Mathlib.Nat.{le-refl, le-trans, zero-mul, eq-or-lt-of-le, le-of-suc-le-suc, mul-le-mul-left, mul-le-mul-right}
 use native.Mathlib.Omega.{arith}
-use mathlib.Core.Bool.{Bool, true, false}
 use mathlib.Core.List.{List}
 use mathlib.Core.Logic.{_⊎_, inl, inr}
 use mathlib.Core.Path.{_≡_, refl, sym, ap, ap₂, _∙_}
 use lib.Dec.{eqb}
 use lib.ListN.{getD}
 use borrow.Author.Tests.{eq-eqb, ne-eqb}
-use Rattle.ppda.proofs.Places.{row-below}
+use Rattle.ppda.proofs.Places.{row-of, row-below}
 use Rattle.ppda.specs.Sums.{bit, sumTo}
 use Rattle.ppda.specs.Rules.{Push, nothing, one, two, fits, overRow}
-use Rattle.ppda.specs.Equations.{entries, rows, through, stepsThrough}
 use Rattle.ppda.proofs.Sums.{sumTo-step, sumTo-le, sumTo-mono}
 use Rattle.ppda.proofs.Rows.{row-const}
 use Rattle.model.specs.Records.{recordsOf, target, pushes, top, under, weight}
 use Rattle.model.specs.Rules.{pushOf, ruleOf, rulesOf, rowOf}
 use Rattle.model.proofs.Records.{over-row}
 use Rattle.model.proofs.Rows.{row-fits}
-use Rattle.equations.specs.Held.{Sized, StartsAt, Starts, AtMost}
-use Rattle.equations.specs.Products.{product, stepsProduct}
-use Rattle.equations.proofs.Ranges.{starts-ascend}
+use Rattle.equations.specs.Held.{Sized, StartsAt, Starts}
+use Rattle.equations.proofs.Ranges.{some-symbols, starts-ascend}
 
 -- ---- sums by their last term
 
-sumTo-none : (h : ℕ → ℕ) → sumTo h 0 ≡ 0
+pub sumTo-none : (h : ℕ → ℕ) → sumTo h 0 ≡ 0
 unfolding sumTo
 sumTo-none h = refl
 
@@ -50,7 +47,7 @@ sumTo-grows h a (suc n) l = go (eq-or-lt-of-le l) (λ m. sumTo-grows h a n m)
 
 -- ---- a sum over states
 
-sum-most : (h : ℕ → ℕ) (t c : ℕ) → t < 9 → ((r : ℕ) → h r ≤ c) → sumTo h t ≤ 8 * c
+pub sum-most : (h : ℕ → ℕ) (t c : ℕ) → t < 9 → ((r : ℕ) → h r ≤ c) → sumTo h t ≤ 8 * c
 sum-most h t c few most = le-trans (sumTo-le h c t (λ r l. most r)) (mul-le-mul-right c (le-of-suc-le-suc few))
 
 -- n is the sum of h over the states before t.
@@ -70,26 +67,6 @@ module _ {h : ℕ → ℕ} {s t n : ℕ} (at : StateSum h s t n) where
 
   pub states-within : (c : ℕ) → s < 9 → ((r : ℕ) → h r ≤ c) → n ≤ 8 * c
   states-within c few most = rw (at .sum) (sum-most h t c (omega (arith, at .to)) most)
-
--- ---- limits of what a record contributes
-
-bit-most : (t : Bool) → bit t ≤ 1
-bit-most true = le-refl 1
-bit-most false = omega arith
-
-pub through-most : (s g d : ℕ) (l : List ℕ) (q : ℕ) → s < 9 → d ≤ 2 ^ 20 → AtMost 2097152 l
-    → (r : ℕ) (x : Push) → through s d (entries s g l) r x q ≤ 2 ^ 45
-through-most s g d l q few hd most r nothing =
-    le-trans {m = 2 ^ 20 * 2 ^ 20 * 1} (mul-le-mul (mul-le-mul hd hd) (bit-most (eqb r q))) (omega arith)
-through-most s g d l q few hd most r (one y) = le-trans {m = 2 ^ 20 * 2097152} (mul-le-mul hd (most _)) (omega arith)
-through-most s g d l q few hd most r (two y x) = sum-most (product s g l r y x q) s (2 ^ 42) few (λ t. mul-le-mul (most _) (most _))
-
-pub steps-most : (s g : ℕ) (u e : List ℕ) → s < 9 → AtMost 2097152 u → AtMost 4194304 e
-    → (r : ℕ) (x : Push) → stepsThrough s (2 ^ 20) (entries s g u) (rows g e) r x ≤ 2 ^ 46 + 2 ^ 42
-steps-most s g u e few hu he r nothing = omega arith
-steps-most s g u e few hu he r (one y) = omega (arith, he (r * g + y))
-steps-most s g u e few hu he r (two y x) =
-    omega (arith, he (r * g + y), sum-most (stepsProduct s g u e r y x) s (2 ^ 43) few (λ t. mul-le-mul (hu _) (he _)))
 
 -- ---- what a record pushes, by its L
 
@@ -181,6 +158,13 @@ row-none b s g p z k o h l sized starts state symbol number =
       to = starts-ascend start end;
       sum = omega (arith, before-start b s g sized p z k symbol number h (getD l k 0) start);
     }
+
+-- Row number k is row (k / g, k % g).
+pub row-begin : {b : List ℕ} {s g : ℕ} (k o : ℕ) (h : ℕ → Push → ℕ) (l : List ℕ) → Sized b s g → Starts b g (s * g) l → k < s * g
+    → RowSum b s g (k / g) (k % g) h k (getD l k 0) (getD l (k + 1) 0) o (getD l k 0) o
+row-begin {b} {s} {g} k o h l sized starts below =
+    let (state, symbol, number) = row-of s g k (some-symbols sized) below in
+    row-none b s g (k / g) (k % g) k o h l sized starts state symbol (sym number)
 
 module _ {b : List ℕ} {s g p z : ℕ} {h : ℕ → Push → ℕ} {k a e o i n : ℕ} (at : RowSum b s g p z h k a e o i n) where
   pub row-record : i < e → i < recordsOf b

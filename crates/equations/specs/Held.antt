@@ -7,6 +7,7 @@ use Rattle.ppda.specs.Equations.{Vector, entries}
 use Rattle.model.specs.Records.{recordsOf, statesOf, symbolsOf}
 use Rattle.model.specs.Rules.{rowOf}
 use Rattle.model.specs.Accepted.{ModelFile}
+use Rattle.equations.specs.Exits.{exitMarks}
 
 -- An accepted model file with s states and g symbols.
 pub record Sized (b : List ℕ) (s g : ℕ) : Type 0 where
@@ -24,17 +25,17 @@ pub record StartsAt (b : List ℕ) (g k a : ℕ) : Type 0 where
 abbrev pub Starts : List ℕ → ℕ → ℕ → List ℕ → Type 0
 Starts b g n l = (k : ℕ) → k ≤ n → StartsAt b g k (getD l k 0)
 
--- Every number of the list is at most a.
-abbrev pub AtMost : ℕ → List ℕ → Type 0
-AtMost a l = (e : ℕ) → getD l e 0 ≤ a
-
 -- Two vectors are the same at every entry of a model with s states and g symbols.
 abbrev pub Same : ℕ → ℕ → Vector → Vector → Type 0
 Same s g v u = (p z q : ℕ) → p < s → z < g → q < s → v p z q ≡ u p z q
 
--- The list of 1,024 numbers has the marks v of the entries, in file order, and 0 from there on; no number is above 1.
+-- The list has the marks v of the rows' exits.
+pub record ExitsOf (s g : ℕ) (v : Vector) (l : List ℕ) : Type 0 where
+  pub size : length l ≡ 128
+  pub marks : Same s g (exitMarks g l) v
+
+-- The list of 1,024 numbers has the marks v of the entries, in file order, and 0 from there on.
 pub record Marks (s g : ℕ) (v : Vector) (l : List ℕ) : Type 0 where
   pub size : length l ≡ 1024
-  pub small : AtMost 1 l
   pub marks : Same s g (entries s g l) v
   pub none : (e : ℕ) → s * g * s ≤ e → getD l e 0 ≡ 0

@@ -25,6 +25,9 @@ pub fn live_marks(model: &[u8]) -> [u32; 1024]
     }
     let s = states(model);
     let g = symbols(model);
-    let starts = rows::starts(model, s, g);
-    live::marks(model, &starts, s, g)
+    let mut starts = [0u16; 129];
+    rows::find_starts(model, s, g, &mut starts);
+    let mut live = [0u8; 128];
+    live::find_marks(model, &starts, s, g, &mut live);
+    live::by_entries(&live, s, g)
 }

@@ -3,7 +3,9 @@
 use model::record::field;
 use model::record::row_number;
 use model::sizes::records;
+ghost use mathlib.Core.Path.{_≡_};
 ghost use Prim.Native.Nat.{ℕ, _*_, _≤_, _<_};
+ghost use lib.ListN.{length};
 ghost use Rattle.model.specs.Records.{recordsOf};
 ghost use Rattle.model.specs.Rules.{rowOf};
 ghost use Rattle.equations.specs.Held.{Sized, StartsAt, Starts};
@@ -24,19 +26,17 @@ fn start(model: &[u8], s: usize, g: usize, k: usize, i: usize) -> usize
     at
 }
 
-// Where each row starts, and where the last ends.
-pub fn starts(model: &[u8], s: usize, g: usize) -> [usize; 129]
-    requires { ⌜ Sized (now model) s g ⌝ }
-    ensures { λ r. ⌜ Starts (now (model .entry)) g (s * g) r ⌝ }
+// Finds where each row starts, and where the last ends.
+pub fn find_starts(model: &[u8], s: usize, g: usize, starts: &mut [u16; 129])
+    requires { ⌜ Sized (now model) s g × (length (now starts) ≡ 129) ⌝ }
+    ensures { λ _. ⌜ Starts (now (model .entry)) g (s * g) (now (starts .exit)) ⌝ }
 {
     let n = s * g;
-    let mut starts = [0usize; 129];
     let mut at = 0;
     let mut k = 0;
     while k <= n {
         at = start(model, s, g, k, at);
-        starts[k] = at;
+        starts[k] = at as u16;
         k += 1;
     }
-    starts
 }

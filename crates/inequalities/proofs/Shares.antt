@@ -1,17 +1,21 @@
 -- The margin as the code finds it: one share, and the least value that a loop carries from row to row.
 use Prim.Native.Nat.{ℕ, zero, suc, _+_, _-_, _*_, _/_, _%_, _^_, _≤_, _<_, min}
-use native.Mathlib.Nat.{le-antisymm, le-trans, mul-div-mul-right}
+use native.Mathlib.Nat.{le-antisymm, le-trans, mul-div-mul-right, div-add-mod'}
 use native.Mathlib.Numerals.{add-one}
 use native.Mathlib.Omega.{arith}
 use mathlib.Core.List.{List}
 use mathlib.Core.Path.{_≡_, refl, sym, ap, ap₂, _∙_}
 use lib.Dec.{lit<}
+use lib.ListN.{getD}
 use Rattle.ppda.specs.Sums.{leastTo}
-use Rattle.ppda.specs.Equations.{entries, f}
+use Rattle.ppda.specs.Equations.{f}
 use Rattle.ppda.specs.Margin.{share, shareAt}
 use Rattle.ppda.proofs.Sums.{leastTo-le-top, leastTo-le-term, leastTo-greatest}
 use Rattle.ppda.proofs.Places.{row-of, row-at, row-below}
 use Rattle.model.specs.Rules.{rulesOf}
+use Rattle.delivery.specs.Records.{valueOf}
+use Rattle.delivery.specs.Numbers.{uppersOf}
+use Rattle.equations.specs.Exits.{bitOf}
 use Rattle.inequalities.specs.Shares.{StrictAt, Strict, shareOf, leastShare}
 
 -- ---- one share
@@ -32,14 +36,18 @@ unfolding shareAt
 share-live zero u y h = absurd (omega arith)
 share-live (suc a) u y h = refl
 
--- The condition at an entry, of the numbers found there.
-pub strict-found : (b : List ℕ) (s g : ℕ) (a u : List ℕ) {p z q m n y : ℕ} → Strict b s g a u → p < s → z < g → q < s
-    → m ≡ entries s g a p z q → n ≡ entries s g u p z q → y ≡ f (rulesOf b) s (2 ^ 20) (entries s g u) p z q → StrictAt m n y
-strict-found b s g a u strict hp hz hq em en ey = rw (em, en, ey) (strict _ _ _ hp hz hq)
+-- The mark and the numbers read at exit q of row number k, which is (k / g, k % g): the condition there, and the part in the margin.
+module _ (b : List ℕ) (s g : ℕ) (a u : List ℕ) (k q : ℕ) {m n y : ℕ} (em : m ≡ bitOf (getD a k 0) q)
+    (en : n ≡ valueOf u (k * s + q)) (ey : y ≡ f (rulesOf b) s (2 ^ 20) (uppersOf s g u) (k / g) (k % g) q) where
+  pub strict-found : Strict b s g a u → 0 < g → k < s * g → q < s → StrictAt m n y
+  unfolding uppersOf
+  strict-found strict some hk hq =
+      let row = row-of s g k some hk in
+      rw (em, en, ey) (rw (div-add-mod' k g) at (strict (k / g) (k % g) q (row .0) (row .1) hq))
 
--- Equal numbers have the same part in the margin.
-pub share-found : {a a′ u u′ y y′ r : ℕ} → a ≡ a′ → u ≡ u′ → y ≡ y′ → r ≡ shareAt a u y → r ≡ shareAt a′ u′ y′
-share-found ea eu ey e = e ∙ rw (ea, eu, ey)
+  pub share-found : {r : ℕ} → r ≡ shareAt m n y → r ≡ shareOf b s g a u (k / g) (k % g) q
+  unfolding uppersOf
+  share-found e = rw (e, em, en, ey, div-add-mod' k g)
 
 -- ---- least values by their last term
 

@@ -1,11 +1,13 @@
 -- The outcome of each test by what the code compares, and what its refusal says.
-use Prim.Native.Nat.{ℕ, _+_, _*_, _^_, _≤_, _<_}
+use Prim.Native.Nat.{ℕ, _+_, _*_, _/_, _%_, _^_, _≤_, _<_}
+use native.Mathlib.Nat.{div-add-mod'}
 use native.Mathlib.Omega.{arith}
 use mathlib.Core.Bool.{Bool, true, false, not, _&&_, _||_}
 use mathlib.Core.List.{List, [], _∷_}
 use mathlib.Core.Path.{_≡_, sym, ap, _∙_}
 use lib.Dec.{eqb, leb, ltb}
 use lib.IntN.{ℤ, pos, subℕ}
+use lib.ListN.{getD}
 use mir.Syntax.{w64}
 use mir.Val.{toZ, ofZ}
 use mir.Facts.{toZ-ofZ}
@@ -17,12 +19,15 @@ use Rattle.outcome.specs.Differences.{difference}
 use Rattle.outcome.specs.Tests.{Test, first}
 use Rattle.outcome.proofs.Tests.{first-fails, first-passes, first-empty}
 use Rattle.outcome.proofs.Differences.{difference-exact, shortfall-fits}
-use Rattle.ppda.specs.Equations.{entries, rows, f, meanSide}
+use Rattle.ppda.specs.Equations.{f, meanSide}
+use Rattle.ppda.proofs.Places.{row-below, entries-most}
 use Rattle.model.specs.Rules.{rulesOf}
-use Rattle.delivery.specs.Numbers.{rowAt}
+use Rattle.delivery.specs.Records.{valueOf}
+use Rattle.delivery.specs.Numbers.{uppersOf, rowsOfBlock}
+use Rattle.equations.specs.Exits.{bitOf}
 use Rattle.inequalities.specs.declared.sides.Side.{Side}
 use Rattle.inequalities.specs.Inequalities.{deadTest, upperTest, belowTest, lowerTest, meanTest}
-use Rattle.inequalities.specs.Walks.{sideTest, sideAt, meanAt}
+use Rattle.inequalities.specs.Walks.{deadAt, sideTest, sideAt, meanAt}
 
 -- One test that does not fail.
 one-passes : (t : Test) → t .fails ≡ false → first (t ∷ []) ≡ Accepted
@@ -83,14 +88,26 @@ module _ (r y i : ℕ) where
   unfolding meanTest
   mean-passes h = one-passes _ (le-ltb _ _ h)
 
--- Numbers read at entry (p, z, q) make its test.
-pub side-found : (k : Side) (b : List ℕ) (s g : ℕ) (a v : List ℕ) (from p z q : ℕ) {x n y row : ℕ} {o : Outcome}
-    → x ≡ entries s g a p z q → n ≡ entries s g v p z q → y ≡ f (rulesOf b) s (2 ^ 20) (entries s g v) p z q → row ≡ rowAt g p z
-    → o ≡ first (sideTest k x n y (from + (row * s + q)) ∷ []) → o ≡ first (sideAt k b s g a v from p z q)
-side-found k b s g a v from p z q ex en ey er eo = rw (eo, ex, en, ey, er)
+-- ---- what is read at row number k, which is (k / g, k % g)
 
--- Numbers read at row (p, z) make its test.
-pub mean-found : (b : List ℕ) (s g : ℕ) (u r : List ℕ) (from p z : ℕ) {n y row : ℕ} {o : Outcome}
-    → n ≡ rows g r p z → y ≡ meanSide (rulesOf b) s (2 ^ 20) (2 ^ 8) (entries s g u) (rows g r) p z → row ≡ rowAt g p z
-    → o ≡ first (meanTest n y (from + row) ∷ []) → o ≡ first (meanAt b s g u r from p z)
-mean-found b s g u r from p z en ey er eo = rw (eo, en, ey, er)
+-- Exit q is one of the block's entries, which are at most 1,024.
+pub entry-within : (s g k q : ℕ) → s < 9 → g < 17 → k < s * g → q < s → (k * s + q < s * g * s) × (k * s + q < 1024)
+entry-within s g k q hs hg hk hq = let here = row-below (s * g) s k q hk hq in (here, omega (arith, here, entries-most s g hs hg))
+
+-- The mark and the numbers read at an exit make its tests.
+module _ (s g : ℕ) (a d : List ℕ) (from k q : ℕ) {x n : ℕ} {o : Outcome} (ex : x ≡ bitOf (getD a k 0) q)
+    (en : n ≡ valueOf d (k * s + q)) where
+  pub dead-found : o ≡ first (deadTest x n (from + (k * s + q)) ∷ []) → o ≡ first (deadAt s g a d from (k / g) (k % g) q)
+  unfolding uppersOf
+  dead-found eo = rw (eo, ex, en, div-add-mod' k g)
+
+  pub side-found : (side : Side) (b : List ℕ) {y : ℕ} → y ≡ f (rulesOf b) s (2 ^ 20) (uppersOf s g d) (k / g) (k % g) q
+      → o ≡ first (sideTest side x n y (from + (k * s + q)) ∷ []) → o ≡ first (sideAt side b s g a d from (k / g) (k % g) q)
+  unfolding uppersOf
+  side-found side b ey eo = rw (eo, ex, en, ey, div-add-mod' k g)
+
+-- The numbers read at a row make its test.
+pub mean-found : (b : List ℕ) (s g : ℕ) (u r : List ℕ) (from k : ℕ) {n y : ℕ} {o : Outcome} → n ≡ valueOf r k
+    → y ≡ meanSide (rulesOf b) s (2 ^ 20) (2 ^ 8) (uppersOf s g u) (rowsOfBlock g r) (k / g) (k % g)
+    → o ≡ first (meanTest n y (from + k) ∷ []) → o ≡ first (meanAt b s g u r from (k / g) (k % g))
+mean-found b s g u r from k en ey eo = rw (eo, en, ey, div-add-mod' k g)

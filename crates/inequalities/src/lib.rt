@@ -8,6 +8,3 @@ pub mod sides; // sides.rt: the tests 24 and 26, which need f
 
 // How many units of a sum a filed number counts: 1/2^20 is 2^36 times 1/2^56, and 1/2^8 of a step is 2^36 times 1/2^44.
 const UNIT: u64 = 68719476736;
-
-// What the numbers of a delivery count, and the scale of f on them: 1/2^20.
-const SCALE: u64 = 1048576;

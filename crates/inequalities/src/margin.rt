@@ -1,15 +1,16 @@
 // The margin of a delivery's uppers: the least share over the live entries, in 1/2^20.
 
-use super::SCALE;
 use super::UNIT;
+use delivery::numbers::value;
 use delivery::shape::rows;
 use equations::chances::f;
-use equations::chances::value;
+use equations::live::mark;
 ghost use mathlib.Core.Path.{_≡_};
-ghost use Prim.Native.Nat.{_*_, _^_, _≤_, _<_};
+ghost use Prim.Native.Nat.{_*_, _/_, _%_, _^_, _≤_, _<_};
 ghost use Rattle.ppda.specs.Sums.{leastTo};
 ghost use Rattle.ppda.specs.Margin.{share, shareAt};
-ghost use Rattle.equations.specs.Held.{Sized, Starts, AtMost};
+ghost use Rattle.delivery.specs.Walks.{Within};
+ghost use Rattle.equations.specs.Held.{Sized, Starts};
 ghost use Rattle.inequalities.specs.Shares.{StrictAt, Strict, shareOf, leastShare};
 
 // 1 in 1/2^20: the part of a dead entry, and the margin where nothing is live.
@@ -37,26 +38,26 @@ fn share_at(live: u64, u: u64, y: u64) -> u64
     share(u, y)
 }
 
-// The least of `least` and the shares of row (p, z).
+// The least of `least` and the shares of a row, by its number.
 fn least_of_row(
     model: &[u8],
-    starts: &[usize; 129],
-    live: &[u32; 1024],
-    uppers: &[u32; 1024],
+    starts: &[u16; 129],
+    live: &[u8; 128],
+    uppers: &[u8],
     s: usize,
     g: usize,
-    p: usize,
-    z: usize,
+    row: usize,
     least: u64,
 ) -> u64
-    requires { ⌜ Sized (now model) s g × Starts (now model) g (s * g) (now starts) × AtMost 2097152 (now uppers) × Strict (now model) s g (now live) (now uppers) × (p < s) × (z < g) ⌝ }
-    ensures { λ r. ⌜ r ≡ leastTo least (shareOf (now (model .entry)) s g (now (live .entry)) (now (uppers .entry)) p z) s ⌝ }
+    requires { ⌜ Sized (now model) s g × Starts (now model) g (s * g) (now starts) × Within (now uppers) (s * g * s) 2097152 × Strict (now model) s g (now live) (now uppers) × (row < s * g) ⌝ }
+    ensures { λ r. ⌜ r ≡ leastTo least (shareOf (now (model .entry)) s g (now (live .entry)) (now (uppers .entry)) (row / g) (row % g)) s ⌝ }
 {
+    let at = row * s;
     let mut least = least;
     let mut q = 0;
     while q < s {
-        let y = f(model, starts, uppers, s, g, SCALE, p, z, q);
-        let share = share_at(value(live, s, g, p, z, q), value(uppers, s, g, p, z, q), y);
+        let y = f(model, starts, uppers, s, g, row, q);
+        let share = share_at(mark(live, row, q), value(uppers, at + q), y);
         least = if share < least { share } else { least };
         q += 1;
     }
@@ -66,20 +67,20 @@ fn least_of_row(
 // The margin: the least share over the live entries, and 2^20 where nothing is live.
 pub fn margin_of(
     model: &[u8],
-    starts: &[usize; 129],
-    live: &[u32; 1024],
-    uppers: &[u32; 1024],
+    starts: &[u16; 129],
+    live: &[u8; 128],
+    uppers: &[u8],
     s: usize,
     g: usize,
 ) -> u64
-    requires { ⌜ Sized (now model) s g × Starts (now model) g (s * g) (now starts) × AtMost 2097152 (now uppers) × Strict (now model) s g (now live) (now uppers) ⌝ }
+    requires { ⌜ Sized (now model) s g × Starts (now model) g (s * g) (now starts) × Within (now uppers) (s * g * s) 2097152 × Strict (now model) s g (now live) (now uppers) ⌝ }
     ensures { λ r. ⌜ r ≡ leastShare (now (model .entry)) s g (now (live .entry)) (now (uppers .entry)) ⌝ }
 {
     let n = rows(s, g);
     let mut least = WHOLE;
     let mut k = 0;
     while k < n {
-        least = least_of_row(model, starts, live, uppers, s, g, k / g, k % g, least);
+        least = least_of_row(model, starts, live, uppers, s, g, k, least);
         k += 1;
     }
     least

@@ -1,8 +1,8 @@
 // The test 27: mean steps against the right side of their inequality, in 1/2^44 of a step.
 
 use super::UNIT;
+use delivery::numbers::value;
 use delivery::shape::rows;
-use equations::steps::mean;
 use equations::steps::mean_side;
 use outcome::Outcome;
 use outcome::Reason;
@@ -12,7 +12,8 @@ ghost use mathlib.Core.List.{[], _∷_};
 ghost use Prim.Native.Nat.{_*_, _^_, _≤_, _<_};
 ghost use Rattle.outcome.specs.Tests.{first};
 ghost use Rattle.delivery.specs.Layout.{eachRow};
-ghost use Rattle.equations.specs.Held.{Sized, Starts, AtMost};
+ghost use Rattle.delivery.specs.Walks.{Within};
+ghost use Rattle.equations.specs.Held.{Sized, Starts};
 ghost use Rattle.inequalities.specs.Inequalities.{meanTest};
 ghost use Rattle.inequalities.specs.Walks.{meanAt};
 
@@ -35,23 +36,21 @@ fn check_mean(r: u64, y: u64, place: usize) -> Outcome
 // The mean steps of all rows. Their block starts at record `from`.
 pub fn check(
     model: &[u8],
-    starts: &[usize; 129],
-    uppers: &[u32; 1024],
-    means: &[u32; 1024],
+    starts: &[u16; 129],
+    uppers: &[u8],
+    means: &[u8],
     s: usize,
     g: usize,
     from: usize,
 ) -> Outcome
-    requires { ⌜ Sized (now model) s g × Starts (now model) g (s * g) (now starts) × AtMost 2097152 (now uppers) × AtMost 4194304 (now means) × (from ≤ 2048) ⌝ }
+    requires { ⌜ Sized (now model) s g × Starts (now model) g (s * g) (now starts) × Within (now uppers) (s * g * s) 2097152 × Within (now means) (s * g) 4194304 × (from ≤ 2048) ⌝ }
     ensures { λ r. ⌜ r ≡ first (eachRow s g (meanAt (now (model .entry)) s g (now (uppers .entry)) (now (means .entry)) from)) ⌝ }
 {
     let n = rows(s, g);
     let mut k = 0;
     while k < n {
-        let p = k / g;
-        let z = k % g;
-        let y = mean_side(model, starts, uppers, means, s, g, p, z);
-        let found = check_mean(mean(means, g, p, z), y, from + k);
+        let y = mean_side(model, starts, uppers, means, s, g, k);
+        let found = check_mean(value(means, k), y, from + k);
         if let Outcome::Refused { .. } = found {
             return found;
         }

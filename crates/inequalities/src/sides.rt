@@ -1,20 +1,20 @@
 // The tests 24 and 26: a number against f at its entry, in 1/2^56.
 
-use super::SCALE;
 use super::UNIT;
+use delivery::numbers::value;
 use delivery::shape::rows;
 use equations::chances::f;
-use equations::chances::value;
-use model::record::row_number;
+use equations::live::mark;
 use outcome::Outcome;
 use outcome::Reason;
 use outcome::difference;
 ghost use mathlib.Core.Path.{_≡_};
 ghost use mathlib.Core.List.{[], _∷_};
-ghost use Prim.Native.Nat.{_*_, _^_, _≤_, _<_};
+ghost use Prim.Native.Nat.{_*_, _/_, _%_, _^_, _≤_, _<_};
 ghost use Rattle.outcome.specs.Tests.{first, each};
 ghost use Rattle.delivery.specs.Layout.{eachEntry};
-ghost use Rattle.equations.specs.Held.{Sized, Starts, AtMost};
+ghost use Rattle.delivery.specs.Walks.{Within};
+ghost use Rattle.equations.specs.Held.{Sized, Starts};
 ghost use Rattle.inequalities.specs.Inequalities.{upperTest, lowerTest};
 ghost use Rattle.inequalities.specs.Walks.{sideTest, sideAt};
 
@@ -69,30 +69,29 @@ fn check_side(side: Side, live: u64, v: u64, y: u64, place: usize) -> Outcome
     }
 }
 
-// The numbers of row (p, z). The block starts at record `from`.
+// The numbers of a row, by its number. The block starts at record `from`.
 fn check_row(
     side: Side,
     model: &[u8],
-    starts: &[usize; 129],
-    live: &[u32; 1024],
-    values: &[u32; 1024],
+    starts: &[u16; 129],
+    live: &[u8; 128],
+    block: &[u8],
     s: usize,
     g: usize,
-    p: usize,
-    z: usize,
+    row: usize,
     from: usize,
 ) -> Outcome
-    requires { ⌜ Sized (now model) s g × Starts (now model) g (s * g) (now starts) × AtMost 2097152 (now values) × (p < s) × (z < g) × (from ≤ 1024) ⌝ }
-    ensures { λ r. ⌜ r ≡ first (each s (sideAt side (now (model .entry)) s g (now (live .entry)) (now (values .entry)) from p z)) ⌝ }
+    requires { ⌜ Sized (now model) s g × Starts (now model) g (s * g) (now starts) × Within (now block) (s * g * s) 2097152 × (row < s * g) × (from ≤ 1024) ⌝ }
+    ensures { λ r. ⌜ r ≡ first (each s (sideAt side (now (model .entry)) s g (now (live .entry)) (now (block .entry)) from (row / g) (row % g))) ⌝ }
 {
-    let at = row_number(p, g, z) * s;
+    let at = row * s;
     let mut q = 0;
     while q < s {
-        let y = f(model, starts, values, s, g, SCALE, p, z, q);
+        let y = f(model, starts, block, s, g, row, q);
         let found = check_side(
             side,
-            value(live, s, g, p, z, q),
-            value(values, s, g, p, z, q),
+            mark(live, row, q),
+            value(block, at + q),
             y,
             from + (at + q),
         );
@@ -108,20 +107,20 @@ fn check_row(
 pub fn check(
     side: Side,
     model: &[u8],
-    starts: &[usize; 129],
-    live: &[u32; 1024],
-    values: &[u32; 1024],
+    starts: &[u16; 129],
+    live: &[u8; 128],
+    block: &[u8],
     s: usize,
     g: usize,
     from: usize,
 ) -> Outcome
-    requires { ⌜ Sized (now model) s g × Starts (now model) g (s * g) (now starts) × AtMost 2097152 (now values) × (from ≤ 1024) ⌝ }
-    ensures { λ r. ⌜ r ≡ first (eachEntry s g (sideAt side (now (model .entry)) s g (now (live .entry)) (now (values .entry)) from)) ⌝ }
+    requires { ⌜ Sized (now model) s g × Starts (now model) g (s * g) (now starts) × Within (now block) (s * g * s) 2097152 × (from ≤ 1024) ⌝ }
+    ensures { λ r. ⌜ r ≡ first (eachEntry s g (sideAt side (now (model .entry)) s g (now (live .entry)) (now (block .entry)) from)) ⌝ }
 {
     let n = rows(s, g);
     let mut k = 0;
     while k < n {
-        let found = check_row(side, model, starts, live, values, s, g, k / g, k % g, from);
+        let found = check_row(side, model, starts, live, block, s, g, k, from);
         if let Outcome::Refused { .. } = found {
             return found;
         }

@@ -1,19 +1,9 @@
--- `check`: the model is tested first, then the delivery by its shape.
+-- `check`: the model is tested first, then the delivery beside it.
 use mathlib.Core.Path.{sym, _∙_}
-use denote.Ref.{now}
 use borrow.Author.Needs.{needs}
-use Rattle.equations.specs.Held.{Sized}
-use Rattle.equations.proofs.Shown.{sized-of}
-use Rattle.certificate.proofs.Steps.{some-and-few, model-decides, delivery-decides, no-shape}
+use Rattle.certificate.proofs.Steps.{model-decides}
 use Rattle.certificate.proofs.check.Statement.{statement}
 use Rattle.certificate.proofs.check.Tie as tie
-
--- Past the first test the model is accepted.
-sized : (c : tie.After-symbols) → let args = c .before .before .before .before .before .before .before .args in
-    Sized (now (args .model)) (c .before .states .result) (c .symbols .result)
-sized c =
-    sized-of (sym (c .before .before .before .before .check .ensures) ∙ c .before .before .enum-told2 .given .1)
-    (c .before .states .ensures .0) (c .symbols .ensures .0)
 
 check-requires : tie.Need-check-requires
 check-requires c κs = search needs
@@ -27,58 +17,11 @@ returns c = model-decides _ _ _ (c .before .before .check .ensures) (c .enum-tol
 enum-told-2 : tie.Need-enum-told-2
 enum-told-2 c = search needs
 
-states-requires : tie.Need-states-requires
-states-requires c κs = search needs
-
-symbols-requires : tie.Need-symbols-requires
-symbols-requires c κs = search needs
-
-shape-of-requires : tie.Need-shape-of-requires
-shape-of-requires c κs = some-and-few (sized c)
-
-enum-known-shape : tie.Need-enum-known-shape
-enum-known-shape c = search needs
-
-check-shaped-requires : tie.Need-check-shaped-requires
-check-shaped-requires c κs =
-    let shape = c .before in
-    (sized (shape .before .before .before), sym (shape .before .before .shape-of .ensures) ∙ shape .shape .given .1)
-
-enum-told-3 : tie.Need-enum-told-3
-enum-told-3 c = search needs
-
-refused-requires : tie.Need-refused-requires
-refused-requires c κs = search needs
+check-requires-2 : tie.Need-check-requires-2
+check-requires-2 c κs = sym (c .before .before .check .ensures) ∙ c .enum-told2 .given .1
 
 returns-2 : tie.Need-returns-2
-returns-2 c =
-    let shape = c .before .before in
-    let symbols = shape .before .before .before in
-    delivery-decides _ _ _ _ (symbols .before .before .before .before .check .ensures) (symbols .before .before .enum-told2 .given .1)
-    (symbols .before .states .ensures .0) (symbols .symbols .ensures .0)
-    (sym (shape .shape .given .1) ∙ shape .before .before .shape-of .ensures) (c .check-shaped .ensures)
-
-returns-3 : tie.Need-returns-3
-returns-3 c =
-    let symbols = c .before .before .before .before in
-    delivery-decides _ _ _ _ (symbols .before .before .before .before .check .ensures) (symbols .before .before .enum-told2 .given .1)
-    (symbols .before .states .ensures .0) (symbols .symbols .ensures .0)
-    (sym (c .before .enum-told3 .given .1) ∙ c .before .before .before .shape-of .ensures) (c .refused .ensures ∙ no-shape _ _ _ _)
+returns-2 c = c .check2 .ensures
 
 pub check-spec : {M : Type 1} → statement M
-check-spec =
-    tie.close
-    (tie.spec
-    check-requires
-    enum-told
-    returns
-    enum-told-2
-    states-requires
-    symbols-requires
-    shape-of-requires
-    enum-known-shape
-    check-shaped-requires
-    enum-told-3
-    refused-requires
-    returns-2
-    returns-3)
+check-spec = tie.close (tie.spec check-requires enum-told returns enum-told-2 check-requires-2 returns-2)

@@ -5,28 +5,38 @@ use mathlib.Core.Path.{_≡_, sym, _∙_}
 use denote.Ref.{now}
 use borrow.Author.Tests.{not-true, not-false}
 use borrow.Author.Needs.{needs}
+use lib.ListN.{length}
+use Prim.Native.Nat.{_*_, _≤_}
 use Rattle.delivery.specs.Shapes.{hasLowers, hasMeans}
-use Rattle.certificate.proofs.Steps.{few, block-after-lowers, block-alone, no-means, means-after-lowers, means-alone}
+use Rattle.certificate.proofs.Steps.{few, lowers-whole, block-after-lowers, block-alone, no-means, means-after-lowers, means-alone}
 use Rattle.certificate.proofs.numbers.check_means.Statement.{statement}
 use Rattle.certificate.proofs.numbers.check_means.Tie as tie
 
 -- Past the first test the mean steps stand, and in the branch of the second the lowers do.
-means-stand : (c : tie.Else1) → hasMeans (c .before .before .before .before .args .shape) ≡ true
+means-stand : (c : tie.Else1) → hasMeans (c .before .before .before .before .before .args .shape) ≡ true
 means-stand c = sym (c .before .has-means .ensures) ∙ not-false _ (c .if1 .left)
 
-lowers-stand : (c : tie.Then2) → hasLowers (c .before .before .before .before .before .before .before .args .shape) ≡ true
+lowers-stand : (c : tie.Then2) → hasLowers (c .before .before .before .before .before .before .before .before .args .shape) ≡ true
 lowers-stand c = sym (c .before .has-lowers .ensures) ∙ c .if2 .taken
+
+-- There the rest has them.
+whole : (c : tie.Then2)
+    → let entries = c .before .before in
+    8 * entries .entries .result ≤ length (now (entries .before .before .before .before .before .before .args .rest))
+whole c =
+    let entries = c .before .before in
+    lowers-whole _ _ _ (entries .before .before .before .before .before .before .pre .3 .lowers (lowers-stand c)) (entries .entries .ensures .0)
 
 has-means-requires : tie.Need-has-means-requires
 has-means-requires c κs = search needs
 
 returns : tie.Need-returns
 returns c =
-    no-means _ _ _ _ (now (c .before .before .before .before .args .uppers)) _
+    no-means _ _ _ _ (now (c .before .before .before .before .before .args .uppers)) _
     (sym (c .before .has-means .ensures) ∙ not-true _ (c .if1 .taken))
 
 entries-requires : tie.Need-entries-requires
-entries-requires c κs = few (c .before .before .before .before .pre .0)
+entries-requires c κs = few (c .before .before .before .before .before .pre .0)
 
 has-lowers-requires : tie.Need-has-lowers-requires
 has-lowers-requires c κs = search needs
@@ -35,43 +45,41 @@ mul-block : tie.Need-mul-block
 mul-block c = search needs
 
 sub-block : tie.Need-sub-block
-sub-block c = omega (arith, c .before .before .before .before .before .before .before .pre .3 .lowers (lowers-stand c) .whole)
+sub-block c = omega (arith, whole c)
 
 part-block-start : tie.Need-part-block-start
-part-block-start c = omega (arith, c .before .before .before .before .before .before .before .pre .3 .lowers (lowers-stand c) .whole)
+part-block-start c = omega (arith, whole c)
 
 part-block-end : tie.Need-part-block-end
 part-block-end c = search needs
 
-add-check-block-of-means : tie.Need-add-check-block-of-means
-add-check-block-of-means c = search needs
+add-check : tie.Need-add-check
+add-check c = search needs
 
-check-block-of-means-requires : tie.Need-check-block-of-means-requires
-check-block-of-means-requires c κs =
-    let pre = c .before .before .before .before .before .before .before .before .pre in
+check-requires : tie.Need-check-requires
+check-requires c κs =
     let entries = c .before .before .before in
+    let pre = entries .before .before .before .before .before .before .pre in
     let block = block-after-lowers (pre .3) (means-stand (entries .before)) (entries .entries .ensures .0) (lowers-stand (c .before)) in
     (pre .0, pre .1, pre .2, block, omega arith)
 
 returns-2 : tie.Need-returns-2
 returns-2 c =
     let entries = c .before .before .before .before in
-    let args = entries .before .before .before .before .before .args in
-    means-after-lowers _ _ _ _ (now (args .uppers)) _ _ (means-stand (entries .before)) (entries .entries .ensures .0)
-    (lowers-stand (c .before .before)) (c .check-block-of-means .ensures)
+    means-after-lowers _ _ _ _ (now (entries .before .before .before .before .before .before .args .uppers)) _ _ (means-stand (entries .before))
+    (entries .entries .ensures .0) (lowers-stand (c .before .before)) (c .check .ensures)
 
-check-block-of-means-requires-2 : tie.Need-check-block-of-means-requires-2
-check-block-of-means-requires-2 c κs =
-    let pre = c .before .before .before .before .before .before .before .pre in
+check-requires-2 : tie.Need-check-requires-2
+check-requires-2 c κs =
+    let pre = c .before .before .before .before .before .before .before .before .pre in
     let block = block-alone (pre .3) (means-stand (c .before .before .before)) (sym (c .before .has-lowers .ensures) ∙ c .if2 .left) in
     (pre .0, pre .1, pre .2, block, omega arith)
 
 returns-3 : tie.Need-returns-3
 returns-3 c =
     let entries = c .before .before .before in
-    let args = entries .before .before .before .before .before .args in
-    means-alone _ _ _ _ (now (args .uppers)) _ _ (means-stand (entries .before)) (entries .entries .ensures .0)
-    (sym (c .before .before .has-lowers .ensures) ∙ c .before .if2 .left) (c .check-block-of-means2 .ensures)
+    means-alone _ _ _ _ (now (entries .before .before .before .before .before .before .args .uppers)) _ _ (means-stand (entries .before))
+    (entries .entries .ensures .0) (sym (c .before .before .has-lowers .ensures) ∙ c .before .if2 .left) (c .check2 .ensures)
 
 pub check-means-spec : {M : Type 1} → statement M
 check-means-spec =
@@ -85,8 +93,8 @@ check-means-spec =
     sub-block
     part-block-start
     part-block-end
-    add-check-block-of-means
-    check-block-of-means-requires
+    add-check
+    check-requires
     returns-2
-    check-block-of-means-requires-2
+    check-requires-2
     returns-3)

@@ -2,7 +2,7 @@
 use mathlib.Core.Path.{sym, _∙_}
 use denote.Ref.{now}
 use borrow.Author.Needs.{needs}
-use Rattle.certificate.proofs.Steps.{few, dead-decides, uppers-decide, lowers-decide, means-decide}
+use Rattle.certificate.proofs.Steps.{some-and-few, dead-decides, uppers-decide, lowers-decide, means-decide}
 use Rattle.certificate.proofs.numbers.check_rest.Statement.{statement}
 use Rattle.certificate.proofs.numbers.check_rest.Tie as tie
 
@@ -11,16 +11,16 @@ has-lowers-requires c κs = search needs
 
 dead-lowers-requires : tie.Need-dead-lowers-requires
 dead-lowers-requires c κs =
-    let pre = c .before .before .before .pre in
-    let sizes = few (pre .0) in
-    (sizes .0, sizes .1, λ stand. pre .3 .lowers (sym (c .has-lowers .ensures) ∙ stand))
+    let pre = c .before .before .before .before .pre in
+    let sizes = some-and-few (pre .0) in
+    (sizes .1, sizes .2, sizes .3, λ stand. pre .3 .lowers (sym (c .has-lowers .ensures) ∙ stand))
 
 enum-told : tie.Need-enum-told
 enum-told c = search needs
 
 returns : tie.Need-returns
 returns c =
-    let args = c .before .before .before .before .before .before .args in
+    let args = c .before .before .before .before .before .before .before .args in
     dead-decides _ _ _ _ (now (args .live)) (now (args .uppers)) _ (c .before .before .before .has-lowers .ensures)
     _ (c .before .before .dead-lowers .ensures) (c .enum-told .given .1)
 
@@ -36,7 +36,7 @@ enum-told-3 c = search needs
 returns-2 : tie.Need-returns-2
 returns-2 c =
     let lowers = c .before .before .before .before .before .before in
-    let args = lowers .before .before .before .args in
+    let args = lowers .before .before .before .before .args in
     uppers-decide _ _ _ _ (now (args .live)) (now (args .uppers)) _ (lowers .has-lowers .ensures)
     (c .before .before .before .before .before .dead-lowers .ensures) (c .before .before .before .enum-told2 .given .1)
     _ (c .before .before .check-uppers .ensures) (c .enum-told3 .given .1)
@@ -46,7 +46,7 @@ enum-told-4 c = search needs
 
 check-lowers-requires : tie.Need-check-lowers-requires
 check-lowers-requires c κs =
-    let pre = c .before .before .before .before .before .before .before .before .before .pre in
+    let pre = c .before .before .before .before .before .before .before .before .before .before .pre in
     (pre .0, pre .1, pre .2, λ stand. pre .3 .lowers (sym (c .before .before .before .before .before .before .has-lowers .ensures) ∙ stand))
 
 enum-told-5 : tie.Need-enum-told-5
@@ -56,7 +56,7 @@ returns-3 : tie.Need-returns-3
 returns-3 c =
     let uppers = c .before .before .before .before .before in
     let lowers = uppers .before .before .before .before in
-    let args = lowers .before .before .before .args in
+    let args = lowers .before .before .before .before .args in
     lowers-decide _ _ _ _ (now (args .live)) (now (args .uppers)) _ (lowers .has-lowers .ensures)
     (uppers .before .before .before .dead-lowers .ensures) (uppers .before .enum-told2 .given .1)
     (uppers .check-uppers .ensures) (c .before .before .before .enum-told4 .given .1)
@@ -72,7 +72,7 @@ returns-4 : tie.Need-returns-4
 returns-4 c =
     let uppers = c .before .before .before .before .before .before in
     let lowers = uppers .before .before .before .before in
-    let args = lowers .before .before .before .args in
+    let args = lowers .before .before .before .before .args in
     means-decide _ _ _ _ (now (args .live)) (now (args .uppers)) _ (lowers .has-lowers .ensures)
     (uppers .before .before .before .dead-lowers .ensures) (uppers .before .enum-told2 .given .1)
     (uppers .check-uppers .ensures) (c .before .before .before .before .enum-told4 .given .1)

@@ -13,13 +13,19 @@ check-requires-2 c κs = search needs
 
 returns : tie.Need-returns
 returns c =
-    let args = c .before .before .before .args in
+    let args = c .before .before .before .before .args in
     upper-found _ _ _ (now (args .live)) (now (args .uppers)) _ (c .before .if1 .taken) (c .check .ensures)
 
 returns-2 : tie.Need-returns-2
 returns-2 c =
-    let args = c .before .before .before .args in
+    let args = c .before .before .before .before .args in
     upper-found _ _ _ (now (args .live)) (now (args .uppers)) _ (c .before .if1 .left) (c .check2 .ensures)
 
 pub check-uppers-spec : {M : Type 1} → statement M
-check-uppers-spec = tie.close (tie.spec check-requires check-requires-2 returns returns-2)
+check-uppers-spec =
+    tie.close
+    (tie.spec
+    check-requires
+    check-requires-2
+    returns
+    returns-2)

@@ -17,7 +17,7 @@ use Rattle.delivery.proofs.layout.check.Tie as tie
 -- What is found first is the outcome of the uppers.
 uppers-found : (c : tie.After-check-block) → let args = c .before .before .args in
     c .check-block .result ≡ first (upperRecords (args .s) (args .g) (now (args .delivery)))
-uppers-found c = c .check-block .ensures ∙ ap first (sym (uppers-walked _ _ _ (c .before .before .pre .3)))
+uppers-found c = c .check-block .ensures ∙ ap first (sym (uppers-walked _ _ _))
 
 -- Past the first test the uppers have passed, and past the second the lowers.
 uppers-passed : (c : tie.After-enum-told2) → let args = c .before .before .before .before .args in
@@ -38,8 +38,7 @@ means-found : (c : tie.After-check-block2)
     c .check-block2 .result ≡ first (meanRecords (args .s) (args .g) (args .shape) (now (args .delivery)))
 means-found c =
     c .check-block2 .ensures
-    ∙ ap first (sym (means-walked _ _ _ _ (c .before .before .before .before .before .before .before .before .before .before .before .pre .3)
-    (c .before .means-from .ensures .0)))
+    ∙ ap first (sym (means-walked _ _ _ _ (c .before .means-from .ensures .0)))
 
 check-block-requires : tie.Need-check-block-requires
 check-block-requires c κs =
@@ -47,7 +46,6 @@ check-block-requires c κs =
     let pre = c .before .pre in (
       omega (arith, uppers-fit (args .s) (args .g) (now (args .delivery)) (args .shape) (pre .0)),
       pre .2,
-      pre .3,
       pre .4,
       pre .2,
       omega arith,
@@ -92,7 +90,6 @@ check-block-requires-2 c κs =
     let pre = start .pre in (
       omega (arith, means-fit (args .s) (args .g) (now (args .delivery)) (args .shape) (pre .0) (has (c .before))),
       pre .2,
-      pre .3,
       pre .4,
       omega arith,
       c .means-from .ensures .1,

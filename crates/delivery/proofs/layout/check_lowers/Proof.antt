@@ -26,7 +26,6 @@ check-block-requires c κs =
     let pre = c .before .before .before .before .pre in (
       omega (arith, lowers-fit (args .s) (args .g) (now (args .delivery)) (args .shape) (pre .0) (has (c .before))),
       pre .2,
-      pre .3,
       pre .4,
       pre .2,
       omega arith,
@@ -34,7 +33,7 @@ check-block-requires c κs =
 
 returns : tie.Need-returns
 returns c =
-    c .check-block .ensures ∙ ap first (sym (lowers-walked _ _ _ (c .before .before .before .before .before .pre .3) (c .before .entries .ensures .0)))
+    c .check-block .ensures ∙ ap first (sym (lowers-walked _ _ _ (c .before .entries .ensures .0)))
     ∙ sym (where-it-stands _ _ (has (c .before .before)))
 
 returns-2 : tie.Need-returns-2

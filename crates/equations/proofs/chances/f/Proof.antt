@@ -1,44 +1,52 @@
 -- `f`: the sum so far is that over the row's records passed, and the row's records are those from its start to the next row's.
-use Prim.Native.Nat.{_+_, _*_, _^_, _≤_, _-_}
+use Prim.Native.Nat.{_+_, _*_, _/_, _%_, _^_, _≤_, _-_}
 use native.Mathlib.Nat.{zero-add}
 use native.Mathlib.Omega.{arith}
 use mathlib.Core.Path.{_∙_}
-use Rattle.ppda.specs.Equations.{entries, through, f}
-use Rattle.equations.proofs.Ranges.{few-states, few-symbols, record-within}
-use Rattle.equations.proofs.Sums.{through-most, RowSum, row-none, row-record, row-more, row-end, row-within}
+use Rattle.ppda.specs.Equations.{through, f}
+use Rattle.delivery.specs.Numbers.{uppersOf}
+use Rattle.equations.proofs.Ranges.{few-states, few-rows, record-within, start-most}
+use Rattle.equations.proofs.Sums.{RowSum, row-begin, row-record, row-more, row-end, row-within}
+use Rattle.equations.proofs.Limits.{through-most}
 use Rattle.equations.proofs.chances.f.Statement.{statement}
 use Rattle.equations.proofs.chances.f.Tie as tie
 
 abbrev Inv-loop : tie.InvT-loop
-Inv-loop model starts values s g d p z q row end i₀ sum₀ i sum =
-    RowSum model s g p z (λ r x. through s d (entries s g values) r x q) row i₀ end sum₀ i sum
+Inv-loop model starts block s g row q end i₀ sum₀ i sum =
+    RowSum model s g (row / g) (row % g) (λ r x. through s (2 ^ 20) (uppersOf s g block) r x q) row i₀ end sum₀ i sum
 
 abbrev μ-loop : tie.MeasureT-loop
-μ-loop model starts values s g d p z q row end i₀ sum₀ i sum = end - i
-
-row-number-requires : tie.Need-row-number-requires Inv-loop μ-loop
-row-number-requires c κs = omega (arith, few-states (c .before .pre .0), few-symbols (c .before .pre .0))
+μ-loop model starts block s g row q end i₀ sum₀ i sum = end - i
 
 add-end : tie.Need-add-end Inv-loop μ-loop
-add-end c = omega arith
+add-end c = omega (arith, few-rows (c .before .before .pre .0))
 
 mul-end : tie.Need-mul-end Inv-loop μ-loop
-mul-end c = omega arith
+mul-end c = omega (arith, few-rows (c .before .before .pre .0))
 
 element-copy-out-end : tie.Need-element-copy-out-end Inv-loop μ-loop
-element-copy-out-end c = omega arith
+element-copy-out-end c = omega (arith, few-rows (c .before .before .pre .0))
+
+cast-end : tie.Need-cast-end Inv-loop μ-loop
+cast-end c =
+    let start = c .before .before .before in
+    omega (arith, start-most (start .args .starts .now) (start .pre .0) (start .pre .1) (start .args .row + 1) (omega arith))
 
 mul-i : tie.Need-mul-i Inv-loop μ-loop
-mul-i c = omega arith
+mul-i c = omega (arith, few-rows (c .before .before .before .pre .0))
 
 element-copy-out-i : tie.Need-element-copy-out-i Inv-loop μ-loop
-element-copy-out-i c = omega arith
+element-copy-out-i c = omega (arith, few-rows (c .before .before .before .pre .0))
+
+cast-i : tie.Need-cast-i Inv-loop μ-loop
+cast-i c =
+    let start = c .before .before .before .before in
+    omega (arith, start-most (start .args .starts .now) (start .pre .0) (start .pre .1) (start .args .row) (omega arith))
 
 loop-holds : tie.Need-loop-holds Inv-loop μ-loop
 loop-holds c =
     let start = c .before .before .before .before in
-    row-none _ _ _ _ _ _ _ _ (start .args .starts .now) (start .pre .0) (start .pre .1) (start .pre .4) (start .pre .5)
-    (c .before .before .row-number .ensures .0)
+    row-begin _ _ _ (start .args .starts .now) (start .pre .0) (start .pre .1) (start .pre .3)
 
 weight-requires : tie.Need-weight-requires Inv-loop μ-loop
 weight-requires c κs =
@@ -47,17 +55,17 @@ weight-requires c κs =
 through-requires : tie.Need-through-requires Inv-loop μ-loop
 through-requires c κs =
     let pre = c .before .before .before .before .before .before .before .pre in
-    (pre .0, row-record (c .before .before .loop .inv) (c .before .loop-test .taken), pre .2, pre .3, pre .6)
+    (pre .0, row-record (c .before .before .loop .inv) (c .before .loop-test .taken), pre .2, pre .4)
 
 loop-again : tie.Need-loop-again Inv-loop μ-loop
 loop-again c =
     row-more (c .before .before .before .loop .inv) (c .before .before .loop-test .taken) (c .before .weight .ensures .0) (c .through .ensures .0)
 
-summed : (c : tie.After-through Inv-loop μ-loop) → c .before .before .before .loop .sum + c .before .weight .result * c .through .result ≤ 2 ^ 61
+summed : (c : tie.After-through Inv-loop μ-loop)
+    → c .before .before .before .loop .sum + c .before .weight .result * c .through .result ≤ 2 ^ 61
 summed c =
-    let start = c .before .before .before .before .before .before .before .before in
-    row-within (loop-again c) (2 ^ 45)
-    (through-most _ _ _ (start .args .values .now) _ (few-states (start .pre .0)) (start .pre .3) (start .pre .2))
+    let pre = c .before .before .before .before .before .before .before .before .pre in
+    row-within (loop-again c) (2 ^ 45) (through-most _ _ (few-states (pre .0)) (pre .2) _)
 
 mul-sum : tie.Need-mul-sum Inv-loop μ-loop
 mul-sum c = omega (arith, summed c)
@@ -74,11 +82,10 @@ loop-less c = omega arith
 returns : tie.Need-returns Inv-loop μ-loop
 unfolding f
 returns c =
-    let start = c .before .before .before .before .before .before in (
-      row-end (c .before .loop .inv) (c .loop-test .left) ∙ zero-add _,
-      row-within (c .before .loop .inv) (2 ^ 45)
-          (through-most _ _ _ (start .args .values .now) _ (few-states (start .pre .0)) (start .pre .3) (start .pre .2)),
-    )
+    let pre = c .before .before .before .before .before .before .pre in
+    let inv = c .before .loop .inv in
+    let most = row-within inv (2 ^ 45) (through-most _ _ (few-states (pre .0)) (pre .2) _) in
+    (row-end inv (c .loop-test .left) ∙ zero-add _, most)
 
 pub f-spec : {M : Type 1} → statement M
 f-spec =
@@ -86,12 +93,13 @@ f-spec =
     (tie.spec
     Inv-loop
     μ-loop
-    row-number-requires
     add-end
     mul-end
     element-copy-out-end
+    cast-end
     mul-i
     element-copy-out-i
+    cast-i
     loop-holds
     weight-requires
     through-requires

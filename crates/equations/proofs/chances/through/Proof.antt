@@ -1,12 +1,12 @@
 -- `through`: by how many symbols the record pushes, as in the definition.
-use Prim.Native.Nat.{_*_, _^_, _≤_}
-use native.Mathlib.Nat.{mul-le-mul}
+use Prim.Native.Nat.{_≤_}
 use native.Mathlib.Omega.{arith}
 use mathlib.Core.Path.{sym, _∙_}
 use borrow.Author.Tests.{eq-eqb, ne-eqb}
 use borrow.Author.Needs.{needs}
-use Rattle.equations.proofs.Ranges.{record-sizes}
+use Rattle.equations.proofs.Ranges.{few-states, few-symbols, record-names}
 use Rattle.equations.proofs.Sums.{pushes-nothing, pushes-one, pushes-two}
+use Rattle.equations.proofs.Limits.{upper-most}
 use Rattle.equations.proofs.chances.through.Statement.{statement}
 use Rattle.equations.proofs.chances.through.Tie as tie
 
@@ -17,18 +17,16 @@ field-requires-2 : tie.Need-field-requires-2
 field-requires-2 c κs = search needs
 
 mul-result : tie.Need-mul-result
-mul-result c =
-    let pre = c .before .before .before .before .before .pre in omega (arith, mul-le-mul (pre .3) (pre .3))
+mul-result c = search needs
 
 returns : tie.Need-returns
-returns c =
-    let pre = c .before .before .before .before .before .pre in (
-      rw (
-        pushes-nothing _ _ _ (sym (c .before .before .field2 .ensures .0) ∙ c .before .if1 .taken),
-        eq-eqb _ _ (sym (c .before .before .before .field .ensures .0) ∙ c .if2 .taken),
-      ) (omega arith),
-      omega (arith, mul-le-mul (pre .3) (pre .3)),
-    )
+returns c = (
+  rw (
+    pushes-nothing _ _ _ (sym (c .before .before .field2 .ensures .0) ∙ c .before .if1 .taken),
+    eq-eqb _ _ (sym (c .before .before .before .field .ensures .0) ∙ c .if2 .taken),
+  ) (omega arith),
+  omega arith,
+)
 
 returns-2 : tie.Need-returns-2
 returns-2 c = (
@@ -44,20 +42,20 @@ field-requires-3 c κs = search needs
 
 value-requires : tie.Need-value-requires
 value-requires c κs =
-    let pre = c .before .before .before .before .before .before .pre in omega (arith, record-sizes (pre .0) (pre .1))
-
-one-most : (c : tie.After-value) → c .before .before .before .before .before .before .before .args .d * c .value .result ≤ 2 ^ 20 * 2097152
-one-most c =
     let pre = c .before .before .before .before .before .before .before .pre in
-    mul-le-mul {m₂ = 2097152} (pre .3) (rw (c .value .ensures .0) (pre .2 _))
+    let names = record-names (pre .0) (pre .1) in
+    (few-states (pre .0), few-symbols (pre .0), omega arith, omega arith, pre .3, pre .2 .whole)
+
+value-most : (c : tie.After-value) → c .value .result ≤ 2097152
+value-most c = rw (c .value .ensures .0) (upper-most (c .before .before .before .before .before .before .before .before .pre .2) _ _ _ _ _)
 
 mul-result-2 : tie.Need-mul-result-2
-mul-result-2 c = omega (arith, one-most c)
+mul-result-2 c = search needs
 
 returns-3 : tie.Need-returns-3
 returns-3 c = (
   rw (pushes-one _ _ _ (sym (c .before .before .before .before .field2 .ensures .0) ∙ c .before .if3 .taken)) (cc),
-  omega (arith, one-most c),
+  omega (arith, value-most c),
 )
 
 field-requires-4 : tie.Need-field-requires-4
@@ -65,9 +63,9 @@ field-requires-4 c κs = search needs
 
 through-two-requires : tie.Need-through-two-requires
 through-two-requires c κs =
-    let pre = c .before .before .before .before .before .before .before .pre in
-    let small = record-sizes (pre .0) (pre .1) in
-    (small .0, small .1, omega arith, omega arith, omega arith, omega arith, pre .2)
+    let pre = c .before .before .before .before .before .before .before .before .pre in
+    let names = record-names (pre .0) (pre .1) in
+    (few-states (pre .0), few-symbols (pre .0), omega arith, omega arith, omega arith, pre .3, pre .2)
 
 returns-4 : tie.Need-returns-4
 returns-4 c = (

@@ -5,23 +5,24 @@ use native.Mathlib.Omega.{arith}
 use mathlib.Core.Path.{ap₂}
 use Rattle.equations.specs.Products.{product}
 use Rattle.equations.proofs.Sums.{StateSum, states-none, states-more, states-end, states-within}
+use Rattle.equations.proofs.Limits.{upper-most}
 use Rattle.equations.proofs.chances.through_two.Statement.{statement}
 use Rattle.equations.proofs.chances.through_two.Tie as tie
 
 abbrev Inv-loop : tie.InvT-loop
-Inv-loop values s g r y x q sum₀ t₀ sum t = StateSum (product s g values r y x q) s t sum
+Inv-loop block s g r y x q sum₀ t₀ sum t = StateSum (product s g block r y x q) s t sum
 
 abbrev μ-loop : tie.MeasureT-loop
-μ-loop values s g r y x q sum₀ t₀ sum t = s - t
+μ-loop block s g r y x q sum₀ t₀ sum t = s - t
 
 loop-holds : tie.Need-loop-holds Inv-loop μ-loop
 loop-holds c = states-none
 
 value-requires : tie.Need-value-requires Inv-loop μ-loop
-value-requires c κs = omega arith
+value-requires c κs = let pre = c .before .before .before .pre in omega (arith, pre .6 .whole)
 
 value-requires-2 : tie.Need-value-requires-2 Inv-loop μ-loop
-value-requires-2 c κs = omega arith
+value-requires-2 c κs = let pre = c .before .before .before .before .pre in omega (arith, pre .6 .whole)
 
 loop-again : tie.Need-loop-again Inv-loop μ-loop
 loop-again c =
@@ -29,7 +30,9 @@ loop-again c =
     (ap₂ _*_ (c .before .value .ensures .0) (c .value2 .ensures .0))
 
 summed : (c : tie.After-value2 Inv-loop μ-loop) → c .before .before .before .loop .sum + c .before .value .result * c .value2 .result ≤ 2 ^ 45
-summed c = let pre = c .before .before .before .before .pre in states-within (loop-again c) _ (pre .0) (λ t. mul-le-mul (pre .6 _) (pre .6 _))
+summed c =
+    let pre = c .before .before .before .before .before .pre in
+    states-within (loop-again c) _ (pre .0) (λ t. mul-le-mul (upper-most (pre .6) _ _ _ _ _) (upper-most (pre .6) _ _ _ _ _))
 
 mul-sum : tie.Need-mul-sum Inv-loop μ-loop
 mul-sum c = omega (arith, summed c)
@@ -45,9 +48,9 @@ loop-less c = omega arith
 
 returns : tie.Need-returns Inv-loop μ-loop
 returns c =
-    let pre = c .before .before .pre in
+    let pre = c .before .before .before .pre in
     let inv = c .before .loop .inv in
-    (states-end inv (c .loop-test .left), states-within inv _ (pre .0) (λ t. mul-le-mul (pre .6 _) (pre .6 _)))
+    (states-end inv (c .loop-test .left), states-within inv _ (pre .0) (λ t. mul-le-mul (upper-most (pre .6) _ _ _ _ _) (upper-most (pre .6) _ _ _ _ _)))
 
 pub through-two-spec : {M : Type 1} → statement M
 through-two-spec =

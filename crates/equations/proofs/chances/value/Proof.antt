@@ -1,43 +1,33 @@
--- `value`: the entry's place is below 1,024.
+-- `value`: the entry's record is one of the block's.
 use Prim.Native.Nat.{_+_, _*_, _<_}
 use native.Mathlib.Omega.{arith}
 use borrow.Author.Needs.{needs}
+use Rattle.ppda.proofs.Places.{entry-below}
+use Rattle.delivery.specs.Numbers.{uppersOf}
 use Rattle.equations.proofs.Ranges.{place}
 use Rattle.equations.proofs.chances.value.Statement.{statement}
 use Rattle.equations.proofs.chances.value.Tie as tie
 
+placed : (c : tie.After-row-number) → let args = c .before .before .args in c .row-number .result * args .s + args .q < 1024
+placed c = place _ _ _ (c .row-number .ensures .1) (c .before .before .pre .0) (omega arith)
+
 row-number-requires : tie.Need-row-number-requires
 row-number-requires c κs = search needs
 
-placed : (c : tie.After-row-number) → c .row-number .result * c .before .args .s + c .before .args .q < 1024
-placed c = place _ _ _ (c .row-number .ensures .1) (c .before .pre .0) (c .before .pre .4)
+mul-value : tie.Need-mul-value
+mul-value c = omega (arith, placed c)
 
-mul-wide : tie.Need-mul-wide
-mul-wide c = omega (arith, placed c)
+add-value : tie.Need-add-value
+add-value c = omega (arith, placed c)
 
-add-wide : tie.Need-add-wide
-add-wide c = omega (arith, placed c)
-
-mul-wide-2 : tie.Need-mul-wide-2
-mul-wide-2 c = omega (arith, placed c)
-
-element-copy-out-wide : tie.Need-element-copy-out-wide
-element-copy-out-wide c = placed c
-
-wide-requires : tie.Need-wide-requires
-wide-requires c κs = search needs
+value-requires : tie.Need-value-requires
+value-requires c κs =
+    let pre = c .before .before .pre in
+    rw (c .row-number .ensures .0) (omega (arith, entry-below _ _ _ _ _ (pre .2) (pre .3) (pre .4)))
 
 returns : tie.Need-returns
-returns c = (cc, omega arith)
+unfolding uppersOf
+returns c = (cc, c .value .ensures .1)
 
 pub value-spec : {M : Type 1} → statement M
-value-spec =
-    tie.close
-    (tie.spec
-    row-number-requires
-    mul-wide
-    add-wide
-    mul-wide-2
-    element-copy-out-wide
-    wide-requires
-    returns)
+value-spec = tie.close (tie.spec row-number-requires mul-value add-value value-requires returns)

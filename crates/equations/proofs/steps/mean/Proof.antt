@@ -1,24 +1,18 @@
--- `mean`: the row's number is its place in the list.
+-- `mean`: the row's record is one of the block's.
 use native.Mathlib.Omega.{arith}
 use borrow.Author.Needs.{needs}
+use Rattle.ppda.proofs.Places.{row-below}
 use Rattle.equations.proofs.steps.mean.Statement.{statement}
 use Rattle.equations.proofs.steps.mean.Tie as tie
 
 row-number-requires : tie.Need-row-number-requires
 row-number-requires c κs = search needs
 
-mul-wide : tie.Need-mul-wide
-mul-wide c = search needs
-
-element-copy-out-wide : tie.Need-element-copy-out-wide
-element-copy-out-wide c = search needs
-
-wide-requires : tie.Need-wide-requires
-wide-requires c κs = search needs
+value-requires : tie.Need-value-requires
+value-requires c κs = let pre = c .before .before .pre in omega (arith, row-below _ _ _ _ (pre .2) (pre .3))
 
 returns : tie.Need-returns
-returns c = (cc, omega arith)
+returns c = (cc, c .value .ensures .1)
 
 pub mean-spec : {M : Type 1} → statement M
-mean-spec =
-    tie.close (tie.spec row-number-requires mul-wide element-copy-out-wide wide-requires returns)
+mean-spec = tie.close (tie.spec row-number-requires value-requires returns)

@@ -1,51 +1,59 @@
 -- `mean_side`: the sum so far is one step and that over the row's records passed, and the row's records are those from its start to the
 -- next row's.
-use Prim.Native.Nat.{_+_, _*_, _^_, _≤_, _-_}
+use Prim.Native.Nat.{_+_, _*_, _/_, _%_, _^_, _≤_, _-_}
 use native.Mathlib.Omega.{arith}
-use Rattle.ppda.specs.Equations.{entries, rows, stepsThrough, meanSide}
-use Rattle.equations.proofs.Ranges.{few-states, few-symbols, record-within}
-use Rattle.equations.proofs.Sums.{steps-most, RowSum, row-none, row-record, row-more, row-end, row-within}
+use Rattle.ppda.specs.Equations.{stepsThrough, meanSide}
+use Rattle.delivery.specs.Numbers.{uppersOf, rowsOfBlock}
+use Rattle.equations.proofs.Ranges.{few-states, few-rows, record-within, start-most}
+use Rattle.equations.proofs.Sums.{RowSum, row-begin, row-record, row-more, row-end, row-within}
+use Rattle.equations.proofs.Limits.{steps-most}
 use Rattle.equations.proofs.steps.mean_side.Statement.{statement}
 use Rattle.equations.proofs.steps.mean_side.Tie as tie
 
 abbrev Inv-loop : tie.InvT-loop
-Inv-loop model starts uppers means s g p z row end i₀ sum₀ i sum =
-    RowSum model s g p z (stepsThrough s (2 ^ 20) (entries s g uppers) (rows g means)) row i₀ end sum₀ i sum
+Inv-loop model starts uppers means s g row end i₀ sum₀ i sum =
+    RowSum model s g (row / g) (row % g) (stepsThrough s (2 ^ 20) (uppersOf s g uppers) (rowsOfBlock g means)) row i₀ end sum₀ i sum
 
 abbrev μ-loop : tie.MeasureT-loop
-μ-loop model starts uppers means s g p z row end i₀ sum₀ i sum = end - i
-
-row-number-requires : tie.Need-row-number-requires Inv-loop μ-loop
-row-number-requires c κs = omega (arith, few-states (c .before .pre .0), few-symbols (c .before .pre .0))
+μ-loop model starts uppers means s g row end i₀ sum₀ i sum = end - i
 
 add-end : tie.Need-add-end Inv-loop μ-loop
-add-end c = omega arith
+add-end c = omega (arith, few-rows (c .before .before .before .pre .0))
 
 mul-end : tie.Need-mul-end Inv-loop μ-loop
-mul-end c = omega arith
+mul-end c = omega (arith, few-rows (c .before .before .before .pre .0))
 
 element-copy-out-end : tie.Need-element-copy-out-end Inv-loop μ-loop
-element-copy-out-end c = omega arith
+element-copy-out-end c = omega (arith, few-rows (c .before .before .before .pre .0))
+
+cast-end : tie.Need-cast-end Inv-loop μ-loop
+cast-end c =
+    let start = c .before .before .before .before in
+    omega (arith, start-most (start .args .starts .now) (start .pre .0) (start .pre .1) (start .args .row + 1) (omega arith))
 
 mul-i : tie.Need-mul-i Inv-loop μ-loop
-mul-i c = omega arith
+mul-i c = omega (arith, few-rows (c .before .before .before .before .pre .0))
 
 element-copy-out-i : tie.Need-element-copy-out-i Inv-loop μ-loop
-element-copy-out-i c = omega arith
+element-copy-out-i c = omega (arith, few-rows (c .before .before .before .before .pre .0))
+
+cast-i : tie.Need-cast-i Inv-loop μ-loop
+cast-i c =
+    let start = c .before .before .before .before .before in
+    omega (arith, start-most (start .args .starts .now) (start .pre .0) (start .pre .1) (start .args .row) (omega arith))
 
 loop-holds : tie.Need-loop-holds Inv-loop μ-loop
 loop-holds c =
-    let start = c .before .before .before .before in
-    row-none _ _ _ _ _ _ _ _ (start .args .starts .now) (start .pre .0) (start .pre .1) (start .pre .4) (start .pre .5)
-    (c .before .before .row-number .ensures .0)
+    let start = c .before .before .before .before .before in
+    row-begin _ _ _ (start .args .starts .now) (start .pre .0) (start .pre .1) (start .pre .4)
 
 weight-requires : tie.Need-weight-requires Inv-loop μ-loop
 weight-requires c κs =
-    record-within (c .before .before .before .before .before .before .pre .0) (row-record (c .before .loop .inv) (c .loop-test .taken))
+    record-within (c .before .before .before .before .before .before .before .pre .0) (row-record (c .before .loop .inv) (c .loop-test .taken))
 
 steps-through-requires : tie.Need-steps-through-requires Inv-loop μ-loop
 steps-through-requires c κs =
-    let pre = c .before .before .before .before .before .before .before .pre in
+    let pre = c .before .before .before .before .before .before .before .before .pre in
     (pre .0, row-record (c .before .before .loop .inv) (c .before .loop-test .taken), pre .2, pre .3)
 
 loop-again : tie.Need-loop-again Inv-loop μ-loop
@@ -55,9 +63,8 @@ loop-again c =
 summed : (c : tie.After-steps-through Inv-loop μ-loop)
     → c .before .before .before .loop .sum + c .before .weight .result * c .steps-through .result ≤ 2 ^ 44 + (2 ^ 46 + 2 ^ 42) * 65536
 summed c =
-    let start = c .before .before .before .before .before .before .before .before in
-    row-within (loop-again c) (2 ^ 46 + 2 ^ 42)
-    (steps-most _ _ (start .args .uppers .now) (start .args .means .now) (few-states (start .pre .0)) (start .pre .2) (start .pre .3))
+    let pre = c .before .before .before .before .before .before .before .before .before .pre in
+    row-within (loop-again c) (2 ^ 46 + 2 ^ 42) (steps-most _ _ (few-states (pre .0)) (pre .2) (pre .3))
 
 mul-sum : tie.Need-mul-sum Inv-loop μ-loop
 mul-sum c = omega (arith, summed c)
@@ -74,11 +81,10 @@ loop-less c = omega arith
 returns : tie.Need-returns Inv-loop μ-loop
 unfolding meanSide
 returns c =
-    let start = c .before .before .before .before .before .before in
-    let most =
-    row-within (c .before .loop .inv) (2 ^ 46 + 2 ^ 42)
-    (steps-most _ _ (start .args .uppers .now) (start .args .means .now) (few-states (start .pre .0)) (start .pre .2) (start .pre .3)) in
-    (row-end (c .before .loop .inv) (c .loop-test .left), omega arith)
+    let pre = c .before .before .before .before .before .before .before .pre in
+    let inv = c .before .loop .inv in
+    let most = row-within inv (2 ^ 46 + 2 ^ 42) (steps-most _ _ (few-states (pre .0)) (pre .2) (pre .3)) in
+    (row-end inv (c .loop-test .left), omega arith)
 
 pub mean-side-spec : {M : Type 1} → statement M
 mean-side-spec =
@@ -86,12 +92,13 @@ mean-side-spec =
     (tie.spec
     Inv-loop
     μ-loop
-    row-number-requires
     add-end
     mul-end
     element-copy-out-end
+    cast-end
     mul-i
     element-copy-out-i
+    cast-i
     loop-holds
     weight-requires
     steps-through-requires

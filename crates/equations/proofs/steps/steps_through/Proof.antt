@@ -3,7 +3,7 @@ use Prim.Native.Nat.{_+_, _*_, _≤_}
 use native.Mathlib.Omega.{arith}
 use mathlib.Core.Path.{sym, ap₂, _∙_}
 use borrow.Author.Needs.{needs}
-use Rattle.equations.proofs.Ranges.{record-sizes}
+use Rattle.equations.proofs.Ranges.{few-states, few-symbols, record-names}
 use Rattle.equations.proofs.Sums.{pushes-nothing, pushes-one, pushes-two}
 use Rattle.equations.proofs.steps.steps_through.Statement.{statement}
 use Rattle.equations.proofs.steps.steps_through.Tie as tie
@@ -22,10 +22,12 @@ field-requires-3 c κs = search needs
 
 mean-requires : tie.Need-mean-requires
 mean-requires c κs =
-    let pre = c .before .before .before .before .before .pre in omega (arith, record-sizes (pre .0) (pre .1))
+    let pre = c .before .before .before .before .before .before .before .pre in
+    let names = record-names (pre .0) (pre .1) in
+    (few-states (pre .0), few-symbols (pre .0), omega arith, omega arith, pre .3 .whole)
 
 mean-most : (c : tie.After-mean) → c .mean .result ≤ 4194304
-mean-most c = rw (c .mean .ensures .0) (c .before .before .before .before .before .before .pre .3 _)
+mean-most c = rw (c .mean .ensures .0) (c .before .before .before .before .before .before .before .before .pre .3 .most _)
 
 mul-first : tie.Need-mul-first
 mul-first c = search needs
@@ -41,9 +43,9 @@ field-requires-4 c κs = search needs
 
 steps-two-requires : tie.Need-steps-two-requires
 steps-two-requires c κs =
-    let pre = c .before .before .before .before .before .before .before .before .pre in
-    let small = record-sizes (pre .0) (pre .1) in
-    (small .0, small .1, omega arith, omega arith, omega arith, pre .2, pre .3)
+    let pre = c .before .before .before .before .before .before .before .before .before .before .pre in
+    let names = record-names (pre .0) (pre .1) in
+    (few-states (pre .0), few-symbols (pre .0), omega arith, omega arith, omega arith, pre .2, pre .3)
 
 add-result : tie.Need-add-result
 add-result c = search needs

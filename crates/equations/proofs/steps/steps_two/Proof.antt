@@ -5,6 +5,7 @@ use native.Mathlib.Omega.{arith}
 use mathlib.Core.Path.{ap₂}
 use Rattle.equations.specs.Products.{stepsProduct}
 use Rattle.equations.proofs.Sums.{StateSum, states-none, states-more, states-end, states-within}
+use Rattle.equations.proofs.Limits.{upper-most}
 use Rattle.equations.proofs.steps.steps_two.Statement.{statement}
 use Rattle.equations.proofs.steps.steps_two.Tie as tie
 
@@ -18,10 +19,10 @@ loop-holds : tie.Need-loop-holds Inv-loop μ-loop
 loop-holds c = states-none
 
 value-requires : tie.Need-value-requires Inv-loop μ-loop
-value-requires c κs = omega arith
+value-requires c κs = let pre = c .before .before .before .before .pre in omega (arith, pre .5 .whole)
 
 mean-requires : tie.Need-mean-requires Inv-loop μ-loop
-mean-requires c κs = omega arith
+mean-requires c κs = let pre = c .before .before .before .before .before .pre in omega (arith, pre .6 .whole)
 
 loop-again : tie.Need-loop-again Inv-loop μ-loop
 loop-again c =
@@ -29,7 +30,9 @@ loop-again c =
     (ap₂ _*_ (c .before .value .ensures .0) (c .mean .ensures .0))
 
 summed : (c : tie.After-mean Inv-loop μ-loop) → c .before .before .before .loop .sum + c .before .value .result * c .mean .result ≤ 2 ^ 46
-summed c = let pre = c .before .before .before .before .pre in states-within (loop-again c) _ (pre .0) (λ t. mul-le-mul (pre .5 _) (pre .6 _))
+summed c =
+    let pre = c .before .before .before .before .before .before .pre in
+    states-within (loop-again c) _ (pre .0) (λ t. mul-le-mul (upper-most (pre .5) _ _ _ _ _) (pre .6 .most _))
 
 mul-sum : tie.Need-mul-sum Inv-loop μ-loop
 mul-sum c = omega (arith, summed c)
@@ -45,9 +48,9 @@ loop-less c = omega arith
 
 returns : tie.Need-returns Inv-loop μ-loop
 returns c =
-    let pre = c .before .before .pre in
+    let pre = c .before .before .before .before .pre in
     let inv = c .before .loop .inv in
-    (states-end inv (c .loop-test .left), states-within inv _ (pre .0) (λ t. mul-le-mul (pre .5 _) (pre .6 _)))
+    (states-end inv (c .loop-test .left), states-within inv _ (pre .0) (λ t. mul-le-mul (upper-most (pre .5) _ _ _ _ _) (pre .6 .most _)))
 
 pub steps-two-spec : {M : Type 1} → statement M
 steps-two-spec =

@@ -3,7 +3,6 @@ use Prim.Native.Nat.{_*_, _-_, _≤_}
 use native.Mathlib.Omega.{arith}
 use mathlib.Core.Path.{_≡_}
 use borrow.Author.Needs.{needs}
-use Rattle.ppda.proofs.Places.{row-of}
 use Rattle.equations.proofs.Ranges.{few-states, few-symbols, some-symbols}
 use Rattle.inequalities.proofs.Shares.{leastOfRows, rows-none, rows-more, rows-all}
 use Rattle.inequalities.proofs.margin.margin_of.Statement.{statement}
@@ -17,22 +16,13 @@ abbrev μ-loop : tie.MeasureT-loop
 μ-loop model starts live uppers s g n least₀ k₀ least k = n - k
 
 rows-requires : tie.Need-rows-requires Inv-loop μ-loop
-rows-requires c κs = (few-states (c .before .pre .0), few-symbols (c .before .pre .0))
+rows-requires c κs = (few-states (c .before .before .pre .0), few-symbols (c .before .before .pre .0))
 
 loop-holds : tie.Need-loop-holds Inv-loop μ-loop
 loop-holds c = (search needs, c .rows .ensures .0, c .rows .ensures .1, rows-none _ _ _ _ _)
 
-div-least-of-row : tie.Need-div-least-of-row Inv-loop μ-loop
-div-least-of-row c = some-symbols (c .before .before .before .before .pre .0)
-
-rem-least-of-row : tie.Need-rem-least-of-row Inv-loop μ-loop
-rem-least-of-row c = some-symbols (c .before .before .before .before .pre .0)
-
 least-of-row-requires : tie.Need-least-of-row-requires Inv-loop μ-loop
-least-of-row-requires c κs =
-    let pre = c .before .before .before .before .pre in
-    let row = row-of _ _ (c .before .loop .k) (some-symbols (pre .0)) (rw (c .before .loop .inv .1) at (c .loop-test .taken)) in
-    (pre .0, pre .1, pre .2, pre .3, row .0, row .1)
+least-of-row-requires c κs = let pre = c .before .before .before .before .before .pre in (pre .0, pre .1, pre .2, pre .3, omega arith)
 
 add-k : tie.Need-add-k Inv-loop μ-loop
 add-k c = search needs
@@ -41,15 +31,10 @@ loop-less : tie.Need-loop-less Inv-loop μ-loop
 loop-less c = search needs
 
 loop-again : tie.Need-loop-again Inv-loop μ-loop
-loop-again c = (
-  omega arith,
-  search needs,
-  search needs,
-  rows-more _ _ _ _ _ _ (c .before .before .loop .inv .3) (c .least-of-row .ensures),
-)
+loop-again c = (omega arith, search needs, search needs, rows-more _ _ _ _ _ _ (c .before .before .loop .inv .3) (c .least-of-row .ensures))
 
 returns : tie.Need-returns Inv-loop μ-loop
-returns c = rows-all _ _ _ _ _ _ (some-symbols (c .before .before .before .before .pre .0)) (omega arith) (c .before .loop .inv .3)
+returns c = rows-all _ _ _ _ _ _ (some-symbols (c .before .before .before .before .before .pre .0)) (omega arith) (c .before .loop .inv .3)
 
 pub margin-of-spec : {M : Type 1} → statement M
 margin-of-spec =
@@ -59,8 +44,6 @@ margin-of-spec =
     μ-loop
     rows-requires
     loop-holds
-    div-least-of-row
-    rem-least-of-row
     least-of-row-requires
     add-k
     loop-less

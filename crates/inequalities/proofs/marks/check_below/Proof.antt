@@ -20,17 +20,11 @@ abbrev μ-loop : tie.MeasureT-loop
 loop-holds : tie.Need-loop-holds Inv-loop μ-loop
 loop-holds c = (search needs, each-none _)
 
-mul-if1 : tie.Need-mul-if1 Inv-loop μ-loop
-mul-if1 c = search needs
+value-requires : tie.Need-value-requires Inv-loop μ-loop
+value-requires c κs = search needs
 
-element-copy-out-if1 : tie.Need-element-copy-out-if1 Inv-loop μ-loop
-element-copy-out-if1 c = search needs
-
-mul-if1-2 : tie.Need-mul-if1-2 Inv-loop μ-loop
-mul-if1-2 c = search needs
-
-element-copy-out-if1-2 : tie.Need-element-copy-out-if1-2 Inv-loop μ-loop
-element-copy-out-if1-2 c = search needs
+value-requires-2 : tie.Need-value-requires-2 Inv-loop μ-loop
+value-requires-2 c κs = search needs
 
 add-refused : tie.Need-add-refused Inv-loop μ-loop
 add-refused c = search needs
@@ -40,8 +34,9 @@ refused-requires c κs = search needs
 
 returns : tie.Need-returns Inv-loop μ-loop
 returns c =
+    let fails = rw (c .before .before .before .value .ensures .0, c .before .before .value2 .ensures .0) at (c .before .if1 .taken) in
     each-refused _ _ _ _ (omega arith) (c .before .before .before .before .before .loop .inv .1)
-    (c .refused .ensures ∙ sym (below-fails _ _ _ (c .before .if1 .taken))) (c .refused .ensures)
+    (c .refused .ensures ∙ sym (below-fails _ _ _ fails)) (c .refused .ensures)
 
 add-e : tie.Need-add-e Inv-loop μ-loop
 add-e c = search needs
@@ -50,7 +45,9 @@ loop-less : tie.Need-loop-less Inv-loop μ-loop
 loop-less c = search needs
 
 loop-again : tie.Need-loop-again Inv-loop μ-loop
-loop-again c = (omega arith, each-more _ _ (c .before .before .before .before .loop .inv .1) (below-passes _ _ _ (c .if1 .left)))
+loop-again c =
+    let passes = rw (c .before .before .value .ensures .0, c .before .value2 .ensures .0) at (c .if1 .left) in
+    (omega arith, each-more _ _ (c .before .before .before .before .loop .inv .1) (below-passes _ _ _ passes))
 
 returns-2 : tie.Need-returns-2 Inv-loop μ-loop
 returns-2 c = sym (each-end _ _ _ (c .before .loop .inv .1) (omega arith))
@@ -62,10 +59,8 @@ check-below-spec =
     Inv-loop
     μ-loop
     loop-holds
-    mul-if1
-    element-copy-out-if1
-    mul-if1-2
-    element-copy-out-if1-2
+    value-requires
+    value-requires-2
     add-refused
     refused-requires
     returns

@@ -1,59 +1,74 @@
--- `check_dead`: the loop returns at the first dead number that is not 0, after every number before it has passed.
-use Prim.Native.Nat.{_-_, _≤_}
+-- `check_dead`: the loop returns at the first row that is refused, after every row before it has passed.
+use Prim.Native.Nat.{ℕ, _*_, _/_, _%_, _-_, _≤_}
 use native.Mathlib.Omega.{arith}
-use mathlib.Core.Path.{_≡_, sym, _∙_}
+use mathlib.Core.List.{List}
+use mathlib.Core.Path.{_≡_, sym, ap, _∙_}
+use denote.Ref.{now}
 use borrow.Author.Needs.{needs}
 use Rattle.outcome.proofs.Tests.{each-none, each-more, each-refused, each-end}
-use Rattle.outcome.specs.Tests.{first, each}
+use Rattle.outcome.specs.Tests.{Test, first, each}
 use Rattle.outcome.specs.declared.Outcome.the-variants.{Accepted}
+use Rattle.delivery.specs.Layout.{eachEntry}
+use Rattle.delivery.proofs.Walks.{entries-by-row}
 use Rattle.inequalities.specs.Walks.{deadAt}
-use Rattle.inequalities.proofs.Tests.{dead-fails, dead-passes}
 use Rattle.inequalities.proofs.marks.check_dead.Statement.{statement}
 use Rattle.inequalities.proofs.marks.check_dead.Tie as tie
 
+-- The tests of row number k.
+abbrev rowTests : ℕ → ℕ → List ℕ → List ℕ → ℕ → ℕ → List Test
+rowTests s g a d from k = each s (deadAt s g a d from (k / g) (k % g))
+
 abbrev Inv-loop : tie.InvT-loop
-Inv-loop live values n from e₀ e = (e ≤ n) × (first (each e (deadAt live values from)) ≡ Accepted)
+Inv-loop live block s g from n k₀ k =
+    (k ≤ n) × (n ≡ s * g) × (n ≤ 128) × (first (each k (rowTests s g live block from)) ≡ Accepted)
 
 abbrev μ-loop : tie.MeasureT-loop
-μ-loop live values n from e₀ e = n - e
+μ-loop live block s g from n k₀ k = n - k
+
+-- The tests of all rows are those of all entries.
+walked : (c : tie.Start Inv-loop μ-loop)
+    → let args = c .args in
+    let test = deadAt (args .s) (args .g) (now (args .live)) (now (args .block)) (args .from) in
+    each (args .s * args .g) (λ k. each (args .s) (test (k / args .g) (k % args .g))) ≡ eachEntry (args .s) (args .g) test
+walked c = sym (entries-by-row (c .args .s) (c .args .g) _ (c .pre .1))
+
+rows-requires : tie.Need-rows-requires Inv-loop μ-loop
+rows-requires c κs = search needs
 
 loop-holds : tie.Need-loop-holds Inv-loop μ-loop
-loop-holds c = (search needs, each-none _)
+loop-holds c = (search needs, c .rows .ensures .0, c .rows .ensures .1, each-none _)
 
-mul-if1 : tie.Need-mul-if1 Inv-loop μ-loop
-mul-if1 c = search needs
+check-dead-row-requires : tie.Need-check-dead-row-requires Inv-loop μ-loop
+check-dead-row-requires c κs = search needs
 
-element-copy-out-if1 : tie.Need-element-copy-out-if1 Inv-loop μ-loop
-element-copy-out-if1 c = search needs
-
-mul-if1-2 : tie.Need-mul-if1-2 Inv-loop μ-loop
-mul-if1-2 c = search needs
-
-element-copy-out-if1-2 : tie.Need-element-copy-out-if1-2 Inv-loop μ-loop
-element-copy-out-if1-2 c = search needs
-
-add-refused : tie.Need-add-refused Inv-loop μ-loop
-add-refused c = search needs
-
-refused-requires : tie.Need-refused-requires Inv-loop μ-loop
-refused-requires c κs = search needs
+enum-told : tie.Need-enum-told Inv-loop μ-loop
+enum-told c = search needs
 
 returns : tie.Need-returns Inv-loop μ-loop
 returns c =
-    each-refused _ _ _ _ (omega arith) (c .before .before .before .before .before .loop .inv .1)
-    (c .refused .ensures ∙ sym (dead-fails _ _ _ (c .before .if1 .taken))) (c .refused .ensures)
+    each-refused _ _ _ _ (omega arith) (c .before .before .before .before .loop .inv .3)
+    (c .before .before .check-dead-row .ensures) (c .enum-told .given .1)
+    ∙ ap first (walked (c .before .before .before .before .before .before .before))
 
-add-e : tie.Need-add-e Inv-loop μ-loop
-add-e c = search needs
+enum-told-2 : tie.Need-enum-told-2 Inv-loop μ-loop
+enum-told-2 c = search needs
+
+add-k : tie.Need-add-k Inv-loop μ-loop
+add-k c = search needs
 
 loop-less : tie.Need-loop-less Inv-loop μ-loop
 loop-less c = search needs
 
 loop-again : tie.Need-loop-again Inv-loop μ-loop
-loop-again c = (omega arith, each-more _ _ (c .before .before .before .before .loop .inv .1) (dead-passes _ _ _ (c .if1 .left)))
+loop-again c = (
+  omega arith,
+  search needs,
+  search needs,
+  each-more _ _ (c .before .before .before .before .loop .inv .3) (sym (c .before .before .check-dead-row .ensures) ∙ c .enum-told2 .given .1),
+)
 
 returns-2 : tie.Need-returns-2 Inv-loop μ-loop
-returns-2 c = sym (each-end _ _ _ (c .before .loop .inv .1) (omega arith))
+returns-2 c = sym (each-end _ _ _ (c .before .loop .inv .3) (omega arith)) ∙ ap first (walked (c .before .before .before .before))
 
 pub check-dead-spec : {M : Type 1} → statement M
 check-dead-spec =
@@ -61,15 +76,13 @@ check-dead-spec =
     (tie.spec
     Inv-loop
     μ-loop
+    rows-requires
     loop-holds
-    mul-if1
-    element-copy-out-if1
-    mul-if1-2
-    element-copy-out-if1-2
-    add-refused
-    refused-requires
+    check-dead-row-requires
+    enum-told
     returns
-    add-e
+    enum-told-2
+    add-k
     loop-less
     loop-again
     returns-2)

@@ -1,12 +1,10 @@
 -- `check`: the loop returns at the first row that is refused, after every row before it has passed.
-use Prim.Native.Nat.{ℕ, _*_, _/_, _%_, _-_, _≤_, _<_}
-use native.Mathlib.Nat.{div-add-mod'}
+use Prim.Native.Nat.{ℕ, _*_, _/_, _%_, _-_, _≤_}
 use native.Mathlib.Omega.{arith}
 use mathlib.Core.List.{List}
 use mathlib.Core.Path.{_≡_, sym, ap, _∙_}
 use denote.Ref.{now}
 use borrow.Author.Needs.{needs}
-use Rattle.ppda.proofs.Places.{row-of}
 use Rattle.outcome.proofs.Tests.{each-none, each-more, each-refused, each-end}
 use Rattle.outcome.specs.Tests.{Test, first, each}
 use Rattle.outcome.specs.declared.Outcome.the-variants.{Accepted}
@@ -36,53 +34,36 @@ walked : (c : tie.Start Inv-loop μ-loop)
     each (args .s * args .g) (λ k. test (k / args .g) (k % args .g)) ≡ eachRow (args .s) (args .g) test
 walked c = sym (rows-by-number (c .args .s) (c .args .g) _ (some-symbols (c .pre .0)))
 
--- The row's state and symbol.
-row : (c : tie.In-loop Inv-loop μ-loop)
-    → let args = c .before .before .before .before .args in
-    (c .before .loop .k / args .g < args .s) × (c .before .loop .k % args .g < args .g)
-row c =
-    let some = some-symbols (c .before .before .before .before .pre .0) in
-    let parts = row-of _ _ (c .before .loop .k) some (rw (c .before .loop .inv .1) at (c .loop-test .taken)) in
-    (parts .0, parts .1)
-
 -- The outcome found is that of the row's test.
 found : (c : tie.After-check-mean Inv-loop μ-loop)
-    → let args = c .before .before .before .before .before .before .before .args in
+    → let args = c .before .before .before .before .before .before .before .before .before .args in
     c .check-mean .result
     ≡ first (rowTest (now (args .model)) (args .s) (args .g) (now (args .uppers)) (now (args .means)) (args .from)
     (c .before .before .before .before .loop .k))
 found c =
-    let args = c .before .before .before .before .before .before .before .args in
-    mean-found (now (args .model)) (args .s) (args .g) (now (args .uppers)) (now (args .means)) (args .from) _ _
-    (c .before .mean .ensures .0) (c .before .before .mean-side .ensures .0) (sym (div-add-mod' _ (args .g))) (c .check-mean .ensures)
+    let args = c .before .before .before .before .before .before .before .before .before .args in
+    mean-found (now (args .model)) (args .s) (args .g) (now (args .uppers)) (now (args .means)) (args .from) _
+    (c .before .value .ensures .0) (c .before .before .mean-side .ensures .0) (c .check-mean .ensures)
 
 rows-requires : tie.Need-rows-requires Inv-loop μ-loop
-rows-requires c κs = (few-states (c .before .pre .0), few-symbols (c .before .pre .0))
+rows-requires c κs = (few-states (c .before .before .before .pre .0), few-symbols (c .before .before .before .pre .0))
 
 loop-holds : tie.Need-loop-holds Inv-loop μ-loop
 loop-holds c = (search needs, c .rows .ensures .0, c .rows .ensures .1, each-none _)
 
-div-p : tie.Need-div-p Inv-loop μ-loop
-div-p c = some-symbols (c .before .before .before .before .pre .0)
-
-rem-z : tie.Need-rem-z Inv-loop μ-loop
-rem-z c = some-symbols (c .before .before .before .before .pre .0)
-
 mean-side-requires : tie.Need-mean-side-requires Inv-loop μ-loop
-mean-side-requires c κs =
-    let pre = c .before .before .before .before .pre in (pre .0, pre .1, pre .2, pre .3, row c .0, row c .1)
+mean-side-requires c κs = let pre = c .before .before .before .before .before .before .pre in (pre .0, pre .1, pre .2, pre .3, omega arith)
 
-mean-requires : tie.Need-mean-requires Inv-loop μ-loop
-mean-requires c κs =
-    let sized = c .before .before .before .before .before .pre .0 in
-    omega (arith, few-states sized, few-symbols sized, row (c .before))
+value-requires : tie.Need-value-requires Inv-loop μ-loop
+value-requires c κs = omega (arith, c .before .before .before .before .before .before .before .pre .3 .whole)
 
 add-check-mean : tie.Need-add-check-mean Inv-loop μ-loop
 add-check-mean c = search needs
 
 check-mean-requires : tie.Need-check-mean-requires Inv-loop μ-loop
 check-mean-requires c κs =
-    (rw (c .mean .ensures .0) (c .before .before .before .before .before .before .pre .3 _), c .before .mean-side .ensures .1)
+    let most = c .before .before .before .before .before .before .before .before .pre .3 .most in
+    (rw (c .value .ensures .0) (most _), c .before .mean-side .ensures .1)
 
 enum-told : tie.Need-enum-told Inv-loop μ-loop
 enum-told c = search needs
@@ -91,7 +72,7 @@ returns : tie.Need-returns Inv-loop μ-loop
 returns c =
     each-refused _ _ _ _ (omega arith) (c .before .before .before .before .before .before .loop .inv .3)
     (found (c .before .before)) (c .enum-told .given .1)
-    ∙ ap first (walked (c .before .before .before .before .before .before .before .before .before))
+    ∙ ap first (walked (c .before .before .before .before .before .before .before .before .before .before .before))
 
 enum-told-2 : tie.Need-enum-told-2 Inv-loop μ-loop
 enum-told-2 c = search needs
@@ -107,12 +88,12 @@ loop-again c = (
   omega arith,
   search needs,
   search needs,
-  each-more _ _ (c .before .before .before .before .before .before .loop .inv .3)
-      (sym (found (c .before .before)) ∙ c .enum-told2 .given .1),
+  each-more _ _ (c .before .before .before .before .before .before .loop .inv .3) (sym (found (c .before .before)) ∙ c .enum-told2 .given .1),
 )
 
 returns-2 : tie.Need-returns-2 Inv-loop μ-loop
-returns-2 c = sym (each-end _ _ _ (c .before .loop .inv .3) (omega arith)) ∙ ap first (walked (c .before .before .before .before))
+returns-2 c =
+    sym (each-end _ _ _ (c .before .loop .inv .3) (omega arith)) ∙ ap first (walked (c .before .before .before .before .before .before))
 
 pub check-spec : {M : Type 1} → statement M
 check-spec =
@@ -122,10 +103,8 @@ check-spec =
     μ-loop
     rows-requires
     loop-holds
-    div-p
-    rem-z
     mean-side-requires
-    mean-requires
+    value-requires
     add-check-mean
     check-mean-requires
     enum-told

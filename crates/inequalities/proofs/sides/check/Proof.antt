@@ -5,7 +5,6 @@ use mathlib.Core.List.{List}
 use mathlib.Core.Path.{_≡_, sym, ap, _∙_}
 use denote.Ref.{now}
 use borrow.Author.Needs.{needs}
-use Rattle.ppda.proofs.Places.{row-of}
 use Rattle.outcome.proofs.Tests.{each-none, each-more, each-refused, each-end}
 use Rattle.outcome.specs.Tests.{Test, first, each}
 use Rattle.outcome.specs.declared.Outcome.the-variants.{Accepted}
@@ -19,39 +18,30 @@ use Rattle.inequalities.proofs.sides.check.Tie as tie
 
 -- The tests of row number k.
 abbrev rowTests : Side → List ℕ → ℕ → ℕ → List ℕ → List ℕ → ℕ → ℕ → List Test
-rowTests side b s g a v from k = each s (sideAt side b s g a v from (k / g) (k % g))
+rowTests side b s g a d from k = each s (sideAt side b s g a d from (k / g) (k % g))
 
 abbrev Inv-loop : tie.InvT-loop
-Inv-loop side model starts live values s g from n k₀ k =
-    (k ≤ n) × (n ≡ s * g) × (n ≤ 128) × (first (each k (rowTests side model s g live values from)) ≡ Accepted)
+Inv-loop side model starts live block s g from n k₀ k =
+    (k ≤ n) × (n ≡ s * g) × (n ≤ 128) × (first (each k (rowTests side model s g live block from)) ≡ Accepted)
 
 abbrev μ-loop : tie.MeasureT-loop
-μ-loop side model starts live values s g from n k₀ k = n - k
+μ-loop side model starts live block s g from n k₀ k = n - k
 
 -- The tests of all rows are those of all entries.
 walked : (c : tie.Start Inv-loop μ-loop)
     → let args = c .args in
-    let test = sideAt (args .side) (now (args .model)) (args .s) (args .g) (now (args .live)) (now (args .values)) (args .from) in
+    let test = sideAt (args .side) (now (args .model)) (args .s) (args .g) (now (args .live)) (now (args .block)) (args .from) in
     each (args .s * args .g) (λ k. each (args .s) (test (k / args .g) (k % args .g))) ≡ eachEntry (args .s) (args .g) test
 walked c = sym (entries-by-row (c .args .s) (c .args .g) _ (some-symbols (c .pre .0)))
 
 rows-requires : tie.Need-rows-requires Inv-loop μ-loop
-rows-requires c κs = (few-states (c .before .pre .0), few-symbols (c .before .pre .0))
+rows-requires c κs = (few-states (c .before .before .pre .0), few-symbols (c .before .before .pre .0))
 
 loop-holds : tie.Need-loop-holds Inv-loop μ-loop
 loop-holds c = (search needs, c .rows .ensures .0, c .rows .ensures .1, each-none _)
 
-div-check-row : tie.Need-div-check-row Inv-loop μ-loop
-div-check-row c = some-symbols (c .before .before .before .before .pre .0)
-
-rem-check-row : tie.Need-rem-check-row Inv-loop μ-loop
-rem-check-row c = some-symbols (c .before .before .before .before .pre .0)
-
 check-row-requires : tie.Need-check-row-requires Inv-loop μ-loop
-check-row-requires c κs =
-    let pre = c .before .before .before .before .pre in
-    let row = row-of _ _ (c .before .loop .k) (some-symbols (pre .0)) (rw (c .before .loop .inv .1) at (c .loop-test .taken)) in
-    (pre .0, pre .1, pre .2, row .0, row .1, pre .3)
+check-row-requires c κs = let pre = c .before .before .before .before .before .pre in (pre .0, pre .1, pre .2, omega arith, pre .3)
 
 enum-told : tie.Need-enum-told Inv-loop μ-loop
 enum-told c = search needs
@@ -60,7 +50,7 @@ returns : tie.Need-returns Inv-loop μ-loop
 returns c =
     each-refused _ _ _ _ (omega arith) (c .before .before .before .before .loop .inv .3)
     (c .before .before .check-row .ensures) (c .enum-told .given .1)
-    ∙ ap first (walked (c .before .before .before .before .before .before .before))
+    ∙ ap first (walked (c .before .before .before .before .before .before .before .before))
 
 enum-told-2 : tie.Need-enum-told-2 Inv-loop μ-loop
 enum-told-2 c = search needs
@@ -80,7 +70,7 @@ loop-again c = (
 )
 
 returns-2 : tie.Need-returns-2 Inv-loop μ-loop
-returns-2 c = sym (each-end _ _ _ (c .before .loop .inv .3) (omega arith)) ∙ ap first (walked (c .before .before .before .before))
+returns-2 c = sym (each-end _ _ _ (c .before .loop .inv .3) (omega arith)) ∙ ap first (walked (c .before .before .before .before .before))
 
 pub check-spec : {M : Type 1} → statement M
 check-spec =
@@ -90,8 +80,6 @@ check-spec =
     μ-loop
     rows-requires
     loop-holds
-    div-check-row
-    rem-check-row
     check-row-requires
     enum-told
     returns

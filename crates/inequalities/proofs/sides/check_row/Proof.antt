@@ -1,5 +1,5 @@
 -- `check_row`: the loop returns at the first entry that is refused, after every entry before it has passed.
-use Prim.Native.Nat.{_+_, _*_, _-_, _≤_, _<_}
+use Prim.Native.Nat.{_+_, _*_, _/_, _%_, _-_, _≤_, _<_}
 use native.Mathlib.Omega.{arith}
 use mathlib.Core.Path.{_≡_, sym, _∙_}
 use denote.Ref.{now}
@@ -7,61 +7,60 @@ use borrow.Author.Needs.{needs}
 use Rattle.outcome.proofs.Tests.{each-none, each-more, each-refused, each-end}
 use Rattle.outcome.specs.Tests.{first, each}
 use Rattle.outcome.specs.declared.Outcome.the-variants.{Accepted}
-use Rattle.equations.proofs.Ranges.{place, few-states, few-symbols}
+use Rattle.equations.proofs.Ranges.{place, few-states, few-symbols, few-rows}
 use Rattle.inequalities.specs.Walks.{sideAt}
-use Rattle.inequalities.proofs.Tests.{side-found}
+use Rattle.inequalities.proofs.Tests.{entry-within, side-found}
 use Rattle.inequalities.proofs.sides.check_row.Statement.{statement}
 use Rattle.inequalities.proofs.sides.check_row.Tie as tie
 
 abbrev Inv-loop : tie.InvT-loop
-Inv-loop side model starts live values s g p z from at q₀ q =
-    (q ≤ s) × (first (each q (sideAt side model s g live values from p z)) ≡ Accepted)
+Inv-loop side model starts live block s g row from at q₀ q =
+    (q ≤ s) × (first (each q (sideAt side model s g live block from (row / g) (row % g))) ≡ Accepted)
 
 abbrev μ-loop : tie.MeasureT-loop
-μ-loop side model starts live values s g p z from at q₀ q = s - q
+μ-loop side model starts live block s g row from at q₀ q = s - q
 
 -- The sizes of an accepted model.
-sizes : (c : tie.Start Inv-loop μ-loop) → (c .args .s < 9) × (c .args .g < 17) × (c .args .p < 8) × (c .args .z < 16)
-sizes c = omega (arith, few-states (c .pre .0), few-symbols (c .pre .0))
+sizes : (c : tie.Start Inv-loop μ-loop) → (c .args .s < 9) × (c .args .row < 128)
+sizes c = omega (arith, few-states (c .pre .0), few-rows (c .pre .0))
 
--- The entry's place is one of 1,024.
+-- The entry's place is one of the block's, which are at most 1,024.
 within : (c : tie.In-loop Inv-loop μ-loop)
-    → c .before .before .row-number .result * c .before .before .before .before .args .s + c .before .loop .q < 1024
+    → let args = c .before .before .before .before .args in
+    let at = args .row * args .s + c .before .loop .q in (at < args .s * args .g * args .s) × (at < 1024)
 within c =
-    let few = sizes (c .before .before .before .before) .0 in
-    place _ _ _ (c .before .before .row-number .ensures .1) few (omega arith)
+    let pre = c .before .before .before .before .pre in
+    entry-within _ _ _ _ (few-states (pre .0)) (few-symbols (pre .0)) (pre .3) (c .loop-test .taken)
 
 -- The outcome found is that of the entry's test.
 found : (c : tie.After-check-side Inv-loop μ-loop)
     → let args = c .before .before .before .before .before .before .before .before .args in
     c .check-side .result
-    ≡ first (sideAt (args .side) (now (args .model)) (args .s) (args .g) (now (args .live)) (now (args .values)) (args .from)
-    (args .p) (args .z) (c .before .before .before .before .before .loop .q))
+    ≡ first (sideAt (args .side) (now (args .model)) (args .s) (args .g) (now (args .live)) (now (args .block)) (args .from)
+    (args .row / args .g) (args .row % args .g) (c .before .before .before .before .before .loop .q))
 found c =
     let args = c .before .before .before .before .before .before .before .before .args in
-    side-found (args .side) (now (args .model)) (args .s) (args .g) (now (args .live)) (now (args .values)) (args .from)
-    (args .p) (args .z) _
-    (c .before .before .value .ensures .0) (c .before .value2 .ensures .0) (c .before .before .before .f .ensures .0)
-    (c .before .before .before .before .before .before .row-number .ensures .0) (c .check-side .ensures)
-
-row-number-requires : tie.Need-row-number-requires Inv-loop μ-loop
-row-number-requires c κs = omega (arith, sizes (c .before))
+    side-found (args .s) (args .g) (now (args .live)) (now (args .block)) (args .from) (args .row) _
+    (c .before .before .mark .ensures .0) (c .before .value .ensures .0) (args .side)
+    (now (args .model)) (c .before .before .before .f .ensures .0) (c .check-side .ensures)
 
 mul-at : tie.Need-mul-at Inv-loop μ-loop
-mul-at c = omega (arith, place _ _ 0 (c .row-number .ensures .1) (sizes (c .before .before) .0) (omega arith))
+mul-at c = let few = sizes (c .before .before) in omega (arith, place _ _ 0 (few .1) (few .0) (omega arith))
 
 loop-holds : tie.Need-loop-holds Inv-loop μ-loop
 loop-holds c = (search needs, each-none _)
 
 f-requires : tie.Need-f-requires Inv-loop μ-loop
-f-requires c κs =
-    let pre = c .before .before .before .before .pre in (pre .0, pre .1, pre .2, omega arith, pre .3, pre .4, c .loop-test .taken)
+f-requires c κs = let pre = c .before .before .before .before .pre in (pre .0, pre .1, pre .2, pre .3, c .loop-test .taken)
+
+mark-requires : tie.Need-mark-requires Inv-loop μ-loop
+mark-requires c κs = omega (arith, sizes (c .before .before .before .before .before))
+
+add-value : tie.Need-add-value Inv-loop μ-loop
+add-value c = omega (arith, within (c .before .before))
 
 value-requires : tie.Need-value-requires Inv-loop μ-loop
-value-requires c κs = omega (arith, sizes (c .before .before .before .before .before))
-
-value-requires-2 : tie.Need-value-requires-2 Inv-loop μ-loop
-value-requires-2 c κs = omega (arith, sizes (c .before .before .before .before .before .before))
+value-requires c κs = omega (arith, within (c .before .before), c .before .before .before .before .before .before .pre .2 .whole)
 
 add-check-side : tie.Need-add-check-side Inv-loop μ-loop
 add-check-side c = omega (arith, within (c .before .before .before))
@@ -71,8 +70,7 @@ add-check-side-2 c = omega (arith, within (c .before .before .before))
 
 check-side-requires : tie.Need-check-side-requires Inv-loop μ-loop
 check-side-requires c κs =
-    let most = c .before .before .before .before .before .before .before .pre .2 in
-    (rw (c .value2 .ensures .0) (most _), c .before .before .f .ensures .1)
+    (rw (c .value .ensures .0) (c .before .before .before .before .before .before .before .pre .2 .most _), c .before .before .f .ensures .1)
 
 enum-told : tie.Need-enum-told Inv-loop μ-loop
 enum-told c = search needs
@@ -107,12 +105,12 @@ check-row-spec =
     (tie.spec
     Inv-loop
     μ-loop
-    row-number-requires
     mul-at
     loop-holds
     f-requires
+    mark-requires
+    add-value
     value-requires
-    value-requires-2
     add-check-side
     add-check-side-2
     check-side-requires

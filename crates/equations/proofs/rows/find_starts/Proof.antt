@@ -1,38 +1,41 @@
--- `starts`: each row starts where `start` finds it, and what was passed before stays earlier than the next row.
+-- `find_starts`: each row starts where `start` finds it, and what was passed before stays earlier than the next row.
 use Prim.Native.Nat.{ℕ, _+_, _≤_, _<_, _-_}
 use native.Mathlib.Omega.{arith}
-use mathlib.Core.Path.{_≡_, refl}
+use mathlib.Core.Path.{_≡_}
 use lib.ListN.{length-set, length, getD}
 use borrow.Author.Count.{below-none}
 use Rattle.model.specs.Records.{recordsOf}
 use Rattle.model.specs.Rules.{rowOf}
 use Rattle.equations.specs.Held.{StartsAt}
 use Rattle.equations.proofs.Ranges.{few-rows, starts-more}
-use Rattle.equations.proofs.rows.starts.Statement.{statement}
-use Rattle.equations.proofs.rows.starts.Tie as tie
+use Rattle.equations.proofs.rows.find_starts.Statement.{statement}
+use Rattle.equations.proofs.rows.find_starts.Tie as tie
 
 abbrev Inv-loop : tie.InvT-loop
-Inv-loop model s g n starts₀ at₀ k₀ starts at k =
+Inv-loop model s g starts₀ n at₀ k₀ starts at k =
     (k ≤ n + 1) × (n ≤ 128) × (length starts ≡ 129) × (at ≤ recordsOf model) × ((j : ℕ) → j < at → rowOf model g j < k)
     × ((e : ℕ) → e < k → StartsAt model g e (getD starts e 0))
 
 abbrev μ-loop : tie.MeasureT-loop
-μ-loop model s g n starts₀ at₀ k₀ starts at k = n + 1 - k
+μ-loop model s g starts₀ n at₀ k₀ starts at k = n + 1 - k
 
 mul-n : tie.Need-mul-n Inv-loop μ-loop
-mul-n c = omega (arith, few-rows (c .before .pre))
+mul-n c = omega (arith, few-rows (c .before .pre .0))
 
 loop-holds : tie.Need-loop-holds Inv-loop μ-loop
-loop-holds c = (omega arith, few-rows (c .before .pre), refl, omega arith, below-none _, below-none _)
+loop-holds c = (omega arith, few-rows (c .before .pre .0), c .before .pre .1, omega arith, below-none _, below-none _)
 
 start-requires : tie.Need-start-requires Inv-loop μ-loop
-start-requires c κs = (c .before .before .before .pre, c .before .loop .inv .3, c .before .loop .inv .4)
+start-requires c κs = (c .before .before .before .pre .0, c .before .loop .inv .3, c .before .loop .inv .4)
+
+cast-starts : tie.Need-cast-starts Inv-loop μ-loop
+cast-starts c = omega (arith, c .start .ensures .within, c .before .before .before .before .pre .0 .file .records .most)
 
 mul-starts : tie.Need-mul-starts Inv-loop μ-loop
 mul-starts c = omega arith
 
-array-write-starts : tie.Need-array-write-starts Inv-loop μ-loop
-array-write-starts c = omega arith
+element-write-starts : tie.Need-element-write-starts Inv-loop μ-loop
+element-write-starts c = omega arith
 
 add-k : tie.Need-add-k Inv-loop μ-loop
 add-k c = omega arith
@@ -54,8 +57,8 @@ loop-again c =
 returns : tie.Need-returns Inv-loop μ-loop
 returns c = λ k h. c .before .loop .inv .5 k (omega arith)
 
-pub starts-spec : {M : Type 1} → statement M
-starts-spec =
+pub find-starts-spec : {M : Type 1} → statement M
+find-starts-spec =
     tie.close
     (tie.spec
     Inv-loop
@@ -63,8 +66,9 @@ starts-spec =
     mul-n
     loop-holds
     start-requires
+    cast-starts
     mul-starts
-    array-write-starts
+    element-write-starts
     add-k
     loop-less
     loop-again

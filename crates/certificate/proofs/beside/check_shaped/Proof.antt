@@ -4,8 +4,8 @@ use borrow.Author.Needs.{needs}
 use Rattle.outcome.proofs.Tests.{first-refused, first-rest}
 use Rattle.certificate.specs.Verdict.{shapedTests}
 use Rattle.certificate.proofs.Steps.{some-and-few}
-use Rattle.certificate.proofs.check_shaped.Statement.{statement}
-use Rattle.certificate.proofs.check_shaped.Tie as tie
+use Rattle.certificate.proofs.beside.check_shaped.Statement.{statement}
+use Rattle.certificate.proofs.beside.check_shaped.Tie as tie
 
 check-requires : tie.Need-check-requires
 check-requires c κs =

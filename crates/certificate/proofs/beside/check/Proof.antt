@@ -1,0 +1,65 @@
+-- `check`: the delivery is tested by its shape.
+use mathlib.Core.Path.{refl, sym, _∙_}
+use denote.Ref.{now}
+use borrow.Author.Needs.{needs}
+use Rattle.equations.specs.Held.{Sized}
+use Rattle.equations.proofs.Shown.{sized-of}
+use Rattle.certificate.proofs.Steps.{some-and-few, delivery-decides, no-shape}
+use Rattle.certificate.proofs.beside.check.Statement.{statement}
+use Rattle.certificate.proofs.beside.check.Tie as tie
+
+sized : (c : tie.After-symbols) → let args = c .before .before .before .before .args in
+    Sized (now (args .model)) (c .before .states .result) (c .symbols .result)
+sized c = sized-of (c .before .before .before .before .pre) (c .before .states .ensures .0) (c .symbols .ensures .0)
+
+states-requires : tie.Need-states-requires
+states-requires c κs = search needs
+
+symbols-requires : tie.Need-symbols-requires
+symbols-requires c κs = search needs
+
+shape-of-requires : tie.Need-shape-of-requires
+shape-of-requires c κs = some-and-few (sized c)
+
+enum-known-shape : tie.Need-enum-known-shape
+enum-known-shape c = search needs
+
+check-shaped-requires : tie.Need-check-shaped-requires
+check-shaped-requires c κs =
+    let shape = c .before in
+    (sized (shape .before .before .before), sym (shape .before .before .shape-of .ensures) ∙ shape .shape .given .1)
+
+enum-told : tie.Need-enum-told
+enum-told c = search needs
+
+refused-requires : tie.Need-refused-requires
+refused-requires c κs = search needs
+
+returns : tie.Need-returns
+returns c =
+    let shape = c .before .before in
+    let symbols = shape .before .before .before in
+    delivery-decides _ _ _ _ refl (symbols .before .before .before .before .pre)
+    (symbols .before .states .ensures .0) (symbols .symbols .ensures .0)
+    (sym (shape .shape .given .1) ∙ shape .before .before .shape-of .ensures) (c .check-shaped .ensures)
+
+returns-2 : tie.Need-returns-2
+returns-2 c =
+    let symbols = c .before .before .before .before in
+    delivery-decides _ _ _ _ refl (symbols .before .before .before .before .pre)
+    (symbols .before .states .ensures .0) (symbols .symbols .ensures .0)
+    (sym (c .before .enum-told .given .1) ∙ c .before .before .before .shape-of .ensures) (c .refused .ensures ∙ no-shape _ _ _ _)
+
+pub check-spec : {M : Type 1} → statement M
+check-spec =
+    tie.close
+    (tie.spec
+    states-requires
+    symbols-requires
+    shape-of-requires
+    enum-known-shape
+    check-shaped-requires
+    enum-told
+    refused-requires
+    returns
+    returns-2)
