@@ -1,0 +1,38 @@
+-- The self-test: a cleared register accepts W, as its table of exchanges has it, and refuses W without its last byte for its length.
+use Prim.Native.Nat.{ℕ}
+use native.Mathlib.Omega.{arith}
+use mathlib.Core.Bool.{Bool, true, false, not, _&&_}
+use mathlib.Core.List.{List}
+use mathlib.Core.Path.{_≡_, refl}
+use lib.ListN.{take}
+use Rattle.outcome.specs.declared.Outcome.{Outcome}
+use Rattle.outcome.specs.declared.Outcome.the-variants.{Accepted, Refused}
+use Rattle.outcome.specs.Tests.{isRefused, first}
+use Rattle.model.specs.W.{wFile}
+use Rattle.model.specs.Verdict.{wholeRecords, modelTests, modelVerdict}
+use Rattle.register.specs.declared.Register.{Register}
+use Rattle.register.specs.declared.Filed.{Filed}
+use Rattle.register.specs.Held.{holdsModel, noModel}
+use Rattle.register.specs.Filing.{cleared, fileModel}
+use Rattle.history.specs.Calls as calls
+use Rattle.history.specs.Run.{modelReply, replyOf, replies}
+use Rattle.history.proofs.Edges.{exchanges-replied}
+
+not-refused : (o : Outcome) → modelReply o ≡ calls.accepted → isRefused o ≡ false
+not-refused Accepted e = refl
+not-refused (Refused x i k) e = let z : _≡_ {A = ℕ} 0 1 = cc in absurd (omega arith)
+
+whole-accepted : isRefused (fileModel cleared wFile .outcome) ≡ false
+unfolding replyOf replies
+whole-accepted = not-refused (fileModel cleared wFile .outcome) (cc (exchanges-replied .1))
+
+cut-refused : isRefused (fileModel cleared (take 39 wFile) .outcome) ≡ true
+unfolding first wholeRecords modelTests modelVerdict holdsModel noModel cleared fileModel
+cut-refused = refl
+
+-- What the code asks of the two filings.
+pub self-test-passes : {w : List ℕ} {e k : Register} {whole cut : Filed} {t u : Bool} → w ≡ wFile
+    → e ≡ cleared → whole ≡ fileModel e w → k ≡ cleared → cut ≡ fileModel k (take 39 w)
+    → t ≡ isRefused (whole .outcome) → u ≡ isRefused (cut .outcome) → not t && u ≡ true
+self-test-passes is-w none filed none′ filed′ said said′ =
+    rw (said, said′, filed, filed′, none, none′, is-w, whole-accepted, cut-refused)

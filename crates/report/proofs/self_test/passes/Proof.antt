@@ -1,0 +1,59 @@
+-- `passes`: a cleared register accepts W, and refuses W without its last byte.
+use borrow.Author.Needs.{needs}
+use Rattle.report.proofs.SelfTest.{self-test-passes}
+use Rattle.report.proofs.self_test.passes.Statement.{statement}
+use Rattle.report.proofs.self_test.passes.Tie as tie
+
+w-requires : tie.Need-w-requires
+w-requires c κs = search needs
+
+empty-requires : tie.Need-empty-requires
+empty-requires c κs = search needs
+
+slice-aggregate-file-model : tie.Need-slice-aggregate-file-model
+slice-aggregate-file-model c = search needs
+
+file-model-requires : tie.Need-file-model-requires
+file-model-requires c κs = search needs
+
+empty-requires-2 : tie.Need-empty-requires-2
+empty-requires-2 c κs = search needs
+
+array-share-prefix-w : tie.Need-array-share-prefix-w
+array-share-prefix-w c = search needs
+
+slice-aggregate-file-model-2 : tie.Need-slice-aggregate-file-model-2
+slice-aggregate-file-model-2 c = search needs
+
+file-model-requires-2 : tie.Need-file-model-requires-2
+file-model-requires-2 c κs = search needs
+
+is-refused-requires : tie.Need-is-refused-requires
+is-refused-requires c κs = search needs
+
+is-refused-requires-2 : tie.Need-is-refused-requires-2
+is-refused-requires-2 c κs = search needs
+
+returns : tie.Need-returns
+returns c =
+    let cut = c .before .before in
+    let whole = cut .before .before .before in
+    let empty = whole .before .before in
+    self-test-passes (empty .before .w .ensures) (empty .empty .ensures) (whole .file-model .ensures)
+    (cut .before .before .empty2 .ensures) (cut .file-model2 .ensures) (c .before .is-refused .ensures) (c .is-refused2 .ensures)
+
+pub passes-spec : {M : Type 1} → statement M
+passes-spec =
+    tie.close
+    (tie.spec
+    w-requires
+    empty-requires
+    slice-aggregate-file-model
+    file-model-requires
+    empty-requires-2
+    array-share-prefix-w
+    slice-aggregate-file-model-2
+    file-model-requires-2
+    is-refused-requires
+    is-refused-requires-2
+    returns)

@@ -1,0 +1,187 @@
+#!/usr/bin/env python3
+"""Checks the examples: their files, the script bounds.py, and what a program prints for them."""
+
+import argparse
+import random
+import subprocess
+import sys
+import tempfile
+from pathlib import Path
+
+EXAMPLES = Path(__file__).resolve().parent.parent / "examples"
+SCRIPT = EXAMPLES / "bounds.py"
+sys.dont_write_bytecode = True
+sys.path.insert(0, str(EXAMPLES))
+import bounds  # noqa: E402 (the folder of examples has to be on the path first)
+
+NAMES = ("model.tab", "bounds.cer")
+NUMBERS = [*range(10, 16), *range(20, 28), *range(40, 45)]
+BAD_TEXTS = [  # text, the line at fault
+    ("rule 0 0 -> 0 65536\nrul 0 0 -> 0 65536\n", 2),
+    ("# comment\n\nrule 0 0 -> 256 65536\n", 3),
+    ("rule 0 0 -> 0 4294967296\n", 1),
+    ("rule 0 0 -> 0 : 65536\n", 1),
+    ("rule 0 0 -> 0 : 1 2 3 65536\n", 1),
+    ("rule 0 0 0 65536\n", 1),
+    ("record 0 0 0 0 0 65536\n", 1),
+    ("upper 0 0 0 1\nupper 0 0 1\n", 2),
+    ("lower 0 0 0 -1\n", 1),
+    ("steps 0 0 0 256\n", 1),
+    ("kind 256 0 0 0 1\n", 1),
+    ("bytes model 256\n", 1),
+    ("bytes neither 1\n", 1),
+    ("bytes model\n", 1),
+]
+
+
+def require(holds, message):
+    """Ends the run with the message unless the condition holds."""
+    if not holds:
+        sys.exit(f"examples: {message}")
+
+
+def run_script(*words):
+    """Runs bounds.py as a person would."""
+    command = [sys.executable, "-B", str(SCRIPT), *map(str, words)]
+    return subprocess.run(command, capture_output=True, text=True, encoding="utf-8")
+
+
+def files_in(folder):
+    """Gives the bytes of a folder's two files by name."""
+    return {name: (folder / name).read_bytes() for name in NAMES}
+
+
+def example_folders():
+    """Gives every folder of examples that has an expected output."""
+    folders = sorted(path.parent for path in EXAMPLES.rglob("expected.txt"))
+    with_files = {path.parent for name in NAMES for path in EXAMPLES.rglob(name)}
+    require(folders and set(folders) == with_files, "a folder lacks its files or its expected.txt")
+    return folders
+
+
+def check_round_trip(files, what):
+    """Checks that reading gives a text which writes the same bytes and reads the same again."""
+    text = bounds.text_from_files(files)
+    written = bounds.files_from_text(text.splitlines())
+    require(written == files, f"{what}: write(read(files)) gives other bytes")
+    require(bounds.text_from_files(written) == text, f"{what}: read(write(text)) gives another text")
+
+
+def check_folder(folder):
+    """Checks one example's files against its text, by the commands and by the functions."""
+    text, files = folder / f"{folder.name}.txt", files_in(folder)
+    with tempfile.TemporaryDirectory() as temporary:
+        first, second = Path(temporary, "first"), Path(temporary, "second")
+        done = run_script("write", text, first)
+        require(done.returncode == 0, f"{text}: {done.stderr}")
+        require(files_in(first) == files, f"{folder}: the files are not what its text gives")
+        printed = run_script("read", folder).stdout
+        again = Path(temporary, "again.txt")
+        again.write_text(printed, encoding="utf-8")
+        run_script("write", again, second)
+        require(files_in(second) == files, f"{folder}: the commands read and write do not round-trip")
+    check_round_trip(files, folder)
+
+
+def random_bytes(source, common):
+    """Gives up to 60 bytes: any bytes, or mostly those that make whole, meaningful records."""
+    length = source.randrange(61)
+    if source.random() < 0.3:
+        return source.randbytes(length)
+    return bytes(source.choice(common) for _ in range(length))
+
+
+def check_random_files(count):
+    """Checks the round trip on random bytes, every form of line among them."""
+    source, seen = random.Random(20), set()
+    for turn in range(count):
+        files = {"model.tab": random_bytes(source, (0, 0, 0, 1, 2, 3)),
+                 "bounds.cer": random_bytes(source, (85, 76, 82, 82, 0, 0, 1))}
+        check_round_trip(files, f"random files {turn}")
+        seen |= {line.split()[0] for line in bounds.text_from_files(files).splitlines() if line}
+    missing = set(bounds.FORMS) - seen
+    require(not missing, f"no random file gave a line with {missing}")
+
+
+def check_missing_files():
+    """Checks that missing files read as empty ones."""
+    with tempfile.TemporaryDirectory() as temporary:
+        done = run_script("read", temporary)
+    empty = bounds.text_from_files({name: b"" for name in NAMES})
+    require(done.returncode == 0 and done.stdout == empty, "missing files do not read as empty")
+
+
+def check_bad_texts():
+    """Checks that a bad text is refused with its line's number and writes nothing."""
+    with tempfile.TemporaryDirectory() as temporary:
+        path, folder = Path(temporary, "bad.txt"), Path(temporary, "out")
+        for text, line in BAD_TEXTS:
+            path.write_text(text, encoding="utf-8")
+            done = run_script("write", path, folder)
+            require(done.returncode == 1, f"accepted: {text!r}")
+            require(f"line {line}:" in done.stderr, f"not line {line}: {done.stderr!r}")
+            require(not folder.exists(), f"files were written for {text!r}")
+
+
+def check_explanations():
+    """Checks that each number is explained, alone and in the table, and no other number is."""
+    table = run_script("explain").stdout.splitlines()
+    require([int(line.split()[0]) for line in table] == NUMBERS, "the table's numbers are wrong")
+    for number in NUMBERS:
+        shortfall = -1 if number in (24, 26, 27) else 0
+        place = 3 if number in range(11, 16) or number in range(21, 28) else 0
+        done = run_script("explain", number, place, shortfall)
+        require(done.returncode == 0 and done.stdout.strip(), f"{number} is not explained")
+        require(str(place) in done.stdout or not place, f"{number}: the place is not named")
+        unit = "1/2^44 of a step" if number == 27 else "1/2^56"
+        require((unit in done.stdout) == (shortfall < 0), f"{number}: the unit is wrong")
+    for number in set(range(60)) - set(NUMBERS):
+        try:
+            bounds.explain(number, 0, 0)
+        except ValueError:
+            continue
+        require(False, f"{number} is explained, but is no refusal")
+
+
+def check_program(program, folder):
+    """Runs the program on a copy of one example's files and compares what it prints."""
+    with tempfile.TemporaryDirectory() as temporary:
+        for name, data in files_in(folder).items():
+            Path(temporary, name).write_bytes(data)
+        done = subprocess.run([program], cwd=temporary, capture_output=True, timeout=60)
+    expected = (folder / "expected.txt").read_bytes()
+    require(done.stdout == expected, f"{folder}: printed {done.stdout!r}, expected {expected!r}")
+
+
+def check_refusals_explained(folders):
+    """Checks that the refusals in expected.txt are ones that bounds.py explains."""
+    for folder in folders:
+        words = (folder / "expected.txt").read_text(encoding="utf-8").split()
+        if words[0] == "refused":
+            require(len(words) == 4, f"{folder}: expected.txt is not one refusal")
+            done = run_script("explain", *words[1:])
+            require(done.returncode == 0, f"{folder}: {done.stderr}")
+
+
+def main():
+    """Runs all checks; the first failure ends the run with exit status 1."""
+    parser = argparse.ArgumentParser(description=__doc__)
+    parser.add_argument("--program", metavar="FILE", help="also run this showbounds on each example")
+    program = parser.parse_args().program
+    folders = example_folders()
+    for folder in folders:
+        check_folder(folder)
+        if program:
+            check_program(str(Path(program).resolve()), folder)
+    check_refusals_explained(folders)
+    check_random_files(300)
+    check_missing_files()
+    check_bad_texts()
+    check_explanations()
+    ran = "with the program's output" if program else "no program run"
+    print(f"examples: {len(folders)} folders, 300 random files, {len(BAD_TEXTS)} bad texts,"
+          f" {len(NUMBERS)} refusals explained, {ran}: all as expected")
+
+
+if __name__ == "__main__":
+    main()

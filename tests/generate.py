@@ -1,0 +1,418 @@
+"""Makes the cases: the edges of document 01, deliveries accepted at the edge, and changes of them by one number, one record or some bytes."""
+import random
+import struct
+
+import checker
+from checker import Figures, ONE, Rule
+
+TOP, MEAN_LEAST, MEAN_TOP = 2097152, 256, 4194304
+ROUNDS = 150  # figures that do not stand by then are given up
+CASES_OF_A_MODEL = 20  # changed cases beside a model's accepted ones
+LENGTH_MIXES = ((0, 0, 0, 1, 2), (0, 0, 0, 0, 1, 2), (0, 1, 2), (0, 0, 1, 1, 2))  # a rule's L is drawn from one of these
+
+
+# Files from numbers.
+
+def model_file(records):
+    return b"".join(struct.pack("<6BI", *record) for record in records)
+
+
+def delivery_file(table, figures):
+    rows = [(p, z, 0) for p, z in table.rows]
+    blocks = ((checker.UPPER, table.entries, figures.upper), (checker.LOWER, table.entries, figures.lower), (checker.MEAN, rows, figures.mean))
+    return b"".join(struct.pack("<4BI", kind, *head, value) for kind, heads, values in blocks if values for head, value in zip(heads, values))
+
+
+# The edges that document 01 names, with its answers; None where it leaves a part unsaid.
+
+MODEL_W = model_file([(0, 0, 0, 0, 0, 0, 32768), (0, 0, 0, 2, 0, 0, 16384), (0, 0, 1, 0, 0, 0, 16384), (1, 0, 1, 0, 0, 0, 65536)])
+
+
+def one_row_model(pop, push):
+    return model_file([(0, 0, 0, 0, 0, 0, pop), (0, 0, 0, 2, 0, 0, push)])
+
+
+def edges_of_w():
+    def filed(second_upper=524288, first_mean=512):
+        figures = Figures([655360, second_upper, 0, 1179648], [524288, 393216, 0, 1048576], [first_mean, 256])
+        return MODEL_W, delivery_file(checker.table_of(MODEL_W), figures)
+    yield "W", *filed(), (0, 0, 0)
+    yield "W, least second upper", *filed(second_upper=466034), (0, 0, 0)
+    yield "W, second upper too low", *filed(second_upper=466033), (24, 1, -30064771072)
+    yield "W, least first mean", *filed(first_mean=486), (0, 0, 0)
+    yield "W, first mean too low", *filed(first_mean=485), (27, 8, -2147483648)
+
+
+def edges_of_one_row():
+    def filed(pop, push, upper, lower=None, mean=None):
+        model = one_row_model(pop, push)
+        figures = Figures(*[None if value is None else [value] for value in (upper, lower, mean)])
+        return model, delivery_file(checker.table_of(model), figures)
+    yield "mean at the edge", *filed(49152, 16384, ONE, mean=512), (0, 0, 0)
+    yield "mean below the edge", *filed(49152, 16384, ONE, mean=511), (27, None, None)
+    yield "upper not strict", *filed(49152, 16384, ONE, lower=0), (24, 0, 0)
+    yield "critical, upper alone", *filed(32768, 32768, ONE), (0, 0, 0)
+    for mean in (MEAN_LEAST, 257, 65536, MEAN_TOP - 1, MEAN_TOP):
+        yield "critical, no mean passes", *filed(32768, 32768, ONE, mean=mean), (27, None, None)
+    yield "lower above upper", *filed(16384, 49152, 524288, lower=ONE), (25, None, 0)
+    yield "a certain return where the chance is 1/3", *filed(16384, 49152, ONE, lower=ONE), (24, 0, 0)
+    yield "greatest value", *filed(49152, 16384, TOP), (0, 0, 0)
+    yield "above the greatest value", *filed(49152, 16384, TOP + 1), (22, 0, 0)
+
+
+def documented_edges():
+    """(label, model, delivery, the answer of document 01)."""
+    yield from edges_of_w()
+    yield from edges_of_one_row()
+    loop = model_file([(0, 0, 0, 1, 0, 0, 65536)])
+    yield "dead entry", loop, delivery_file(checker.table_of(loop), Figures([1], None, None)), (23, 0, 0)
+    yield "row sum", model_file([(0, 0, 0, 0, 0, 0, 65535)]), b"", (15, 0, 0)
+
+
+# Random models.
+
+def random_weights(rng, count, favoured):
+    """Positive weights that sum to 65,536, now and then multiples of 4,096; the first gets at least the favoured weight."""
+    unit = 4096 if count <= (65536 - favoured) // 4096 and rng.randrange(5) < 2 else 1
+    parts = (65536 - favoured) // unit
+    cuts = [0] + sorted(rng.sample(range(1, parts), count - 1)) + [parts]
+    weights = [(high - low) * unit for low, high in zip(cuts, cuts[1:])]
+    weights[0] += 65536 - sum(weights)
+    return weights
+
+
+def random_head(rng, states, symbols, mix):
+    length = rng.choice(mix)
+    y = rng.randrange(symbols) if length else 0
+    return rng.randrange(states), length, y, rng.randrange(symbols) if length == 2 else 0
+
+
+def random_row(rng, p, z, size, count, mix, favoured):
+    """About `count` records of row (p, Z); with a favoured weight the first of them removes Z only."""
+    heads = [(rng.randrange(size[0]), 0, 0, 0)] if favoured else []
+    for _ in range(4 * count):
+        head = random_head(rng, *size, mix)
+        if len(heads) < count and head not in heads:
+            heads.append(head)
+    return [Rule(p, z, *head, weight) for head, weight in zip(heads, random_weights(rng, len(heads), favoured))]
+
+
+def random_model(rng):
+    """A model, mostly small; now and then with up to 8 states, 16 symbols and 1,024 records."""
+    lot, favoured = rng.randrange(1000), rng.choice((0, 0, 20480, 36864))
+    size, counts, mix = (rng.randint(1, 3), rng.randint(1, 3)), (1, 4), rng.choice(LENGTH_MIXES)
+    if lot < 50:
+        size, counts, favoured = (rng.randint(3, 8), rng.randint(1, 3)), (2, 4), 36864
+    elif lot < 70:
+        size, favoured, mix = rng.choice(((1, 16), (2, 8), (2, 16))), 53248, (1,) + (2,) * 7
+        counts = (1024 // (size[0] * size[1]),) * 2
+    elif lot < 73:
+        size, counts, favoured = (8, 16), (8, 8), 57344
+    records = []
+    for p in range(size[0]):
+        for z in range(size[1]):
+            records += random_row(rng, p, z, size, rng.randint(*counts), mix, favoured)
+    return model_file(sorted(records))
+
+
+# Accepted figures at the edge.
+
+def stand(step, values, greatest):
+    """Repeats the step until the values stand; None when they pass the greatest value or do not stand."""
+    for _ in range(ROUNDS):
+        after = step(values)
+        if max(after) > greatest:
+            return None
+        if after == values:
+            return values
+        values = after
+    return None
+
+
+def least_uppers(table, strict, start):
+    """The least uppers from the start up that satisfy u >= f(u), or u > f(u) at live entries."""
+    add = 0 if strict else (1 << 36) - 1
+
+    def step(upper):
+        sides = checker.f(table, upper)
+        return [max(u, ((side + add) >> 36) + strict) if live else 0 for u, side, live in zip(upper, sides, table.is_live)]
+    return stand(step, start, TOP)
+
+
+def greatest_lowers(table, upper):
+    """The greatest lowers below the uppers, so that any one of them is too high when raised."""
+    return stand(lambda lower: [min(low, side >> 36) for low, side in zip(lower, checker.f(table, lower))], upper, TOP)
+
+
+def rounds_from_zero(rng, table):
+    lower = [0] * len(table.entries)
+    for _ in range(rng.randint(0, 6)):
+        lower = [side >> 36 for side in checker.f(table, lower)]
+    return lower
+
+
+def least_means(table, upper):
+    def step(mean):
+        sides = checker.mean_side(table, Figures(upper, None, mean))
+        return [max(MEAN_LEAST, (side + (1 << 36) - 1) >> 36) for side in sides]
+    return stand(step, [MEAN_LEAST] * len(table.rows), MEAN_TOP)
+
+
+def accepted_bases(rng, table):
+    """(label, figures) that should pass: tight uppers for each strictness and roomy strict ones, with and without the other blocks."""
+    zeros = [0] * len(table.entries)
+    plain, strict = least_uppers(table, 0, zeros), least_uppers(table, 1, zeros)
+    roomy = strict and least_uppers(table, 1, [u + rng.randrange(1 << rng.randint(1, 19)) if u else 0 for u in strict])
+    for label, upper in (("plain", plain), ("strict", strict), ("roomy", roomy)):
+        if upper is None:
+            continue
+        mean = least_means(table, upper)
+        lower = label != "plain" and (greatest_lowers(table, upper) or rounds_from_zero(rng, table))
+        yield label, Figures(upper, None, None)
+        if mean:
+            yield label, Figures(upper, None, mean)
+        if lower:
+            yield label, Figures(upper, lower, None)
+        if mean and lower:
+            yield label, Figures(upper, rounds_from_zero(rng, table), mean)
+
+
+# Changes of figures. Each takes (rng, table, figures) and hands back figures.
+
+def moved(rng, values, amount, among=None):
+    """The values with one of them moved; among are the positions to choose from."""
+    at = rng.choice(among or range(len(values)))
+    return [max(0, value + amount) if i == at else value for i, value in enumerate(values)]
+
+
+def live_places(table):
+    return [i for i, live in enumerate(table.is_live) if live]
+
+
+def upper_down(rng, table, figures):
+    return figures._replace(upper=moved(rng, figures.upper, -1, live_places(table)))
+
+
+def two_uppers_down(rng, table, figures):
+    return upper_down(rng, table, upper_down(rng, table, figures))
+
+
+def lower_up(rng, table, figures):
+    lower = figures.lower or rounds_from_zero(rng, table)
+    return figures._replace(lower=moved(rng, lower, 1, live_places(table)))
+
+
+def two_lowers_up(rng, table, figures):
+    return lower_up(rng, table, lower_up(rng, table, figures))
+
+
+def lower_over_upper(rng, table, figures):
+    """One lower 1 above its upper, and another 1 above where it was."""
+    raised, at = lower_up(rng, table, figures), rng.choice(live_places(table) or [0])
+    return raised._replace(lower=[min(TOP, figures.upper[i] + 1) if i == at else low for i, low in enumerate(raised.lower)])
+
+
+def mean_down(rng, table, figures):
+    return figures._replace(mean=moved(rng, figures.mean or least_means(table, figures.upper) or [MEAN_TOP] * len(table.rows), -1))
+
+
+def dead_up(rng, table, figures):
+    dead = [i for i, live in enumerate(table.is_live) if not live]
+    if figures.lower and rng.randrange(2):
+        return figures._replace(lower=moved(rng, figures.lower, 1, dead))
+    return figures._replace(upper=moved(rng, figures.upper, 1, dead))
+
+
+def range_ends(rng, table, figures):
+    """One value at an end of its range or 1 beyond."""
+    field = rng.choice([name for name in Figures._fields if getattr(figures, name)])
+    ends = (MEAN_LEAST - 1, MEAN_LEAST, MEAN_TOP, MEAN_TOP + 1) if field == "mean" else (0, TOP, TOP + 1, 2**32 - 1)
+    values = list(getattr(figures, field))
+    values[rng.randrange(len(values))] = rng.choice(ends)
+    return figures._replace(**{field: values})
+
+
+def lowers_beside(rng, table, figures):
+    """Lowers added to uppers that may lack strictness."""
+    return figures._replace(lower=[min(pair) for pair in zip(figures.upper, rounds_from_zero(rng, table))])
+
+
+def random_live(rng, table, choose):
+    return [choose() if live else 0 for live in table.is_live]
+
+
+def random_values(rng, table, figures):
+    def choose():
+        return rng.randrange(1 << rng.randint(0, 21))
+    lower = random_live(rng, table, choose) if rng.randrange(2) else None
+    mean = [rng.randint(MEAN_LEAST, MEAN_TOP) for _ in table.rows] if rng.randrange(2) else None
+    return Figures(random_live(rng, table, choose) if rng.randrange(2) else figures.upper, lower, mean)
+
+
+def extremes(rng, table, figures):
+    """Values at the two ends of their ranges, for the greatest sums and shortfalls."""
+    upper = rng.choice((figures.upper, random_live(rng, table, lambda: rng.choice((0, TOP, TOP)))))
+    lower = rng.choice((None, random_live(rng, table, lambda: rng.choice((0, TOP, TOP)))))
+    return Figures(upper, lower, rng.choice((None, [rng.choice((MEAN_LEAST, MEAN_TOP)) for _ in table.rows])))
+
+
+# Changes of bytes. Each takes (rng, file, record size) and hands back a file.
+
+def split(file, size):
+    return [file[i:i + size] for i in range(0, len(file), size)]
+
+
+def damaged(rng, file, size):
+    changed = bytearray(file)
+    for _ in range(rng.randint(1, 3) if file else 0):
+        changed[rng.randrange(len(changed))] = rng.choice((0, 1, 2, 16, 76, 82, 85, 255, rng.randrange(256)))
+    return bytes(changed)
+
+
+def swapped(rng, file, size):
+    records = split(file, size)
+    i, j = rng.randrange(len(records)), rng.randrange(len(records))
+    records[i], records[j] = records[j], records[i]
+    return b"".join(records)
+
+
+def doubled(rng, file, size):
+    records = split(file, size)
+    i = rng.randrange(len(records))
+    return b"".join(records[:i] + [records[i]] + records[i:])
+
+
+def truncated(rng, file, size):
+    return file[:rng.choice((0, len(file) - 1, len(file) - size, size * rng.randrange(len(file) // size), rng.randrange(len(file))))]
+
+
+def extended(rng, file, size):
+    """Longer by a byte, by a record, or up to and beyond the greatest length."""
+    greatest = 10240 if size == 10 else 17408
+    added = rng.choice((1, size, max(0, greatest - len(file)), max(0, greatest + size - len(file)), greatest))
+    return (file + file * (added // len(file) + 1))[:len(file) + added]
+
+
+def random_bytes(rng, file, size):
+    """Random bytes, of the same length, of some whole number of records or of any small length."""
+    return rng.randbytes(rng.choice((len(file), size * rng.randint(1, 12), rng.randrange(200))))
+
+
+def field_changed(rng, file, size):
+    """One field of one record moved by 1 or set beyond its range."""
+    changed = bytearray(file)
+    at = size * rng.randrange(len(file) // size) + rng.randrange(size - 4)
+    changed[at] = rng.choice(((changed[at] + 1) % 256, (changed[at] - 1) % 256, 3, 8, 16, 255))
+    return bytes(changed)
+
+
+def faulty_head_and_value(rng, file, size):
+    """A head and a value out of order in one record or in two, so that the order of reasons shows."""
+    changed, count = bytearray(file), len(file) // size
+    i = rng.randrange(count)
+    j = rng.choice((i, rng.randrange(count)))
+    changed[size * i + rng.randrange(size - 4)] ^= rng.choice((1, 255))
+    changed[size * j + size - 1] = 255
+    return bytes(changed)
+
+
+# Changes of a model's records. Each takes (rng, records) and hands back records.
+
+def with_record(records, at, **fields):
+    return records[:at] + [records[at]._replace(**fields)] + records[at + 1:]
+
+
+def weight_by_one(rng, records):
+    at = rng.randrange(len(records))
+    return with_record(records, at, weight=records[at].weight + rng.choice((-1, 1)))
+
+
+def weight_range(rng, records):
+    return with_record(records, rng.randrange(len(records)), weight=rng.choice((0, 65536, 65537, 2**32 - 1)))
+
+
+def weight_shifted(rng, records):
+    """One unit of weight moved between two records of a row, so that the model may pass and its figures just fail."""
+    pairs = [i for i in range(1, len(records)) if records[i][:2] == records[i - 1][:2]]
+    if not pairs:
+        return records
+    i, amount = rng.choice(pairs), rng.choice((-1, 1))
+    shifted = with_record(records, i, weight=records[i].weight + amount)
+    return with_record(shifted, i - 1, weight=records[i - 1].weight - amount)
+
+
+def unused_set(rng, records):
+    at = rng.randrange(len(records))
+    return with_record(records, at, **{rng.choice("yx"): rng.randint(1, 15)})
+
+
+def faulty_record(rng, records):
+    """One record with two or more faults at once, so that the order of reasons shows."""
+    at = rng.randrange(len(records))
+    faults = [{"q": 8}, {"length": 1, "x": 1}, {"length": 0, "y": 1}, {"weight": 0}, {"weight": 65537}, records[max(0, at - 1)]._asdict()]
+    for fields in sorted(rng.sample(faults, rng.randint(2, 3)), key=len, reverse=True):
+        records = with_record(records, at, **fields)
+    return records
+
+
+def row_dropped(rng, records):
+    gone = rng.choice(records)[:2]
+    return [rule for rule in records if rule[:2] != gone] or records
+
+
+def state_added(rng, records):
+    """A record that goes to a state without rows."""
+    at = rng.randrange(len(records))
+    added = with_record(records, at, q=min(7, max(r.p for r in records) + 1))
+    return sorted(added)
+
+
+def last_row_wrong(rng, records):
+    return with_record(records, len(records) - 1, weight=max(1, records[-1].weight - rng.randint(1, 9)))
+
+
+FIGURE_CHANGES = (upper_down,) * 3 + (two_uppers_down, two_lowers_up, lower_over_upper, mean_down, mean_down, dead_up, range_ends, lowers_beside,
+                                      random_values, extremes) + (lower_up,) * 3
+BYTE_CHANGES = (damaged, damaged, swapped, doubled, truncated, extended, random_bytes, field_changed, faulty_head_and_value)
+RECORD_CHANGES = (weight_by_one, weight_range, weight_shifted, weight_shifted, unused_set, faulty_record, faulty_record, row_dropped, state_added, last_row_wrong)
+
+
+def changed_case(rng, model, table, figures):
+    """(the change's name, model, delivery)."""
+    lot, delivery = rng.randrange(100), delivery_file(table, figures)
+    if lot < 56:
+        change = rng.choice(FIGURE_CHANGES)
+        return change.__name__, model, delivery_file(table, change(rng, table, figures))
+    change = rng.choice(RECORD_CHANGES if lot < 76 else BYTE_CHANGES)
+    if lot < 76:
+        return change.__name__, model_file(change(rng, table.records)), delivery
+    if lot < 86:
+        return change.__name__ + " model", change(rng, model, 10), rng.choice((delivery, delivery, b""))
+    return change.__name__ + " delivery", model, change(rng, delivery, 8)
+
+
+def family(rng):
+    """One model with its accepted deliveries and changes of them."""
+    model = random_model(rng)
+    table = checker.table_of(model)
+    bases = list(accepted_bases(rng, table))
+    for label, figures in bases:
+        yield "accepted " + label, model, delivery_file(table, figures)
+    for _ in range(CASES_OF_A_MODEL):
+        label, figures = rng.choice(bases or [("none stands", random_values(rng, table, Figures([0] * len(table.entries), None, None)))])
+        name, new_model, delivery = changed_case(rng, model, table, figures)
+        yield label + ", " + name, new_model, delivery
+
+
+def cases(seed, count):
+    """`count` cases as (label, model, delivery): the edges of document 01 first, then family after family."""
+    rng, made = random.Random(seed), 0
+    for label, model, delivery, _ in documented_edges():
+        if made < count:
+            yield label, model, delivery
+        made += 1
+    while made < count:
+        for case in family(rng):
+            if made < count:
+                yield case
+            made += 1

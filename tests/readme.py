@@ -1,0 +1,50 @@
+"""Runs every command of README.md and compares what it prints; README shows examples/check.c as it is, and its table names every reason."""
+import re
+import subprocess
+import sys
+from pathlib import Path
+
+ROOT = Path(__file__).resolve().parent.parent
+WHOLE_TEST = "./test\n"  # this test is a part of it
+BLOCK = re.compile(r"^```(\w+)\n(.*?)^```\n", re.S | re.M)
+REASONS = [*range(10, 16), *range(20, 28), *range(40, 45)]
+
+
+def blocks(text):
+    """(kind, content, whether the next block follows with no words between)."""
+    found = list(BLOCK.finditer(text))
+    for block, after in zip(found, found[1:] + [None]):
+        joined = after is not None and not text[block.end():after.start()].strip()
+        yield block[1], block[2], joined
+
+
+def run(commands):
+    done = subprocess.run(["sh", "-eu", "-c", commands], cwd=ROOT, capture_output=True, text=True)
+    if done.returncode:
+        sys.exit("README: failed: %s%s%s" % (commands, done.stdout[-2000:], done.stderr[-2000:]))
+    return done.stdout
+
+
+def main():
+    text = (ROOT / "README.md").read_text(encoding="utf-8")
+    listed = [kind_content for kind_content in blocks(text)]
+    kinds = [kind for kind, _, _ in listed]
+    if set(kinds) != {"sh", "text", "c"} or kinds.count("c") != 1:
+        sys.exit("README: unexpected kinds of blocks: %s" % kinds)
+    commands = 0
+    for at, (kind, content, joined) in enumerate(listed):
+        if kind == "c" and content != (ROOT / "examples/check.c").read_text():
+            sys.exit("README: the C program is not examples/check.c")
+        if kind != "sh" or content == WHOLE_TEST:
+            continue
+        printed = run(content)
+        commands += content.count("\n")
+        if joined and listed[at + 1][0] == "text" and printed != listed[at + 1][1]:
+            sys.exit("README: %sprinted\n%s" % (content, printed))
+    if [int(number) for number in re.findall(r"^\| (\d\d) \|", text, re.M)] != REASONS:
+        sys.exit("README: its table does not name the reasons in their order")
+    print("README: %d commands run" % commands)
+
+
+if __name__ == "__main__":
+    main()
