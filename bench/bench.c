@@ -315,6 +315,14 @@ static double seconds(const struct side *side, const struct call *c, size_t time
     return (double)(b.tv_sec - a.tv_sec) + 1e-9 * (double)(b.tv_nsec - a.tv_nsec);
 }
 
+/* The same with the stack moved down: where lists lie in their cache lines changes a short call's time. */
+static double seconds_lower(const struct side *side, const struct call *c, size_t times, size_t bytes)
+{
+    volatile uint8_t unused[bytes + 1];
+    unused[bytes] = 0;
+    return seconds(side, c, times) + unused[bytes];
+}
+
 static size_t times_for_a_sample(const struct side *side, const struct call *c)
 {
     size_t times = 1;
@@ -332,7 +340,7 @@ static void time_all(const struct call *c, double *ns)
     }
     for (int round = 0; round < ROUNDS; round++)
         for (int k = 0; k < SIDE_COUNT; k++) {
-            double one = 1e9 * seconds(&SIDES[k], c, times[k]) / (double)times[k];
+            double one = 1e9 * seconds_lower(&SIDES[k], c, times[k], 16 * (size_t)round) / (double)times[k];
             if (one < ns[k])
                 ns[k] = one;
         }
@@ -374,7 +382,7 @@ static void row(const char *name, const struct model *m, const struct delivery *
     time_all(&c, ns);
     printf("%-31s %7zu %5zu %6zu %8zu | %11.1f %11.1f | %6.2f |", name, m->records, entries_of(m), live_rounds(m, live), p, ns[PLAIN],
         ns[ARCHIVE], ns[ARCHIVE] / ns[PLAIN]);
-    if (p > 0 && d)
+    if (p > 0 && d && model_len == 10 * m->records)
         printf(" %8.3f %8.3f\n", ns[PLAIN] / (double)p, ns[ARCHIVE] / (double)p);
     else
         printf(" %8s %8s\n", "-", "-");
@@ -416,7 +424,7 @@ int main(void)
     struct model chain = deep(0), padded = deep(1024 - (int)chain.records);
 
     printf("Files stay in cache: warm, read-only. The plain check's arrays are not cleared where C need not.\n");
-    printf("Times are the least of %d samples of %.0f ms or more, in ns a call; samples are interleaved.\n", ROUNDS, 1e3 * SAMPLE_SECONDS);
+    printf("Times are the least of %d samples of %.0f ms or more, in ns a call; samples are interleaved, each at another place of the stack.\n", ROUNDS, 1e3 * SAMPLE_SECONDS);
     printf("%-31s %7s %5s %6s %8s | %11s %11s | %6s | %8s %8s\n", "", "", "", "live", "products", "plain", "archive", "", "plain", "archive");
     printf("%-31s %7s %5s %6s %8s | %11s %11s | %6s | %8s %8s\n", "case", "records", "V", "rounds", "of an f", "ns", "ns", "ratio", "ns/prod.", "ns/prod.");
     row("model refused, 10", &one, NULL, 9, 10 << 16);

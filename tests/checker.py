@@ -288,9 +288,12 @@ def printed(model, delivery):
     return "".join(line + "\n" for line in lines)
 
 
+CACHED = (check_model, table_of, check_delivery)
+
+
 def forget():
     """Empties the caches, for use after a function here has been replaced."""
-    for cached in (check_model, table_of, check_delivery):
+    for cached in CACHED:
         cached.cache_clear()
 
 

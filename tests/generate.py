@@ -1,4 +1,5 @@
 """Makes the cases: the edges of document 01, deliveries accepted at the edge, and changes of them by one number, one record or some bytes."""
+import itertools
 import random
 import struct
 
@@ -67,6 +68,39 @@ def documented_edges():
     loop = model_file([(0, 0, 0, 1, 0, 0, 65536)])
     yield "dead entry", loop, delivery_file(checker.table_of(loop), Figures([1], None, None)), (23, 0, 0)
     yield "row sum", model_file([(0, 0, 0, 0, 0, 0, 65535)]), b"", (15, 0, 0)
+
+
+# The far ends: the last places of the largest files, the longest shortfalls, and a model in which nothing is live.
+
+def largest_model():
+    """8 states, 16 symbols and 1,024 records: each row removes its symbol, going to each state, but the last pushes one symbol for state 7."""
+    records = [(p, z, q, 0, 0, 0, 8192) for p in range(8) for z in range(16) for q in range(8)]
+    return model_file(records[:-1] + [(7, 15, 7, 1, 0, 0, 8192)])
+
+
+def largest_certificate(**last):
+    """A certificate for it; `last` gives other last numbers of its blocks."""
+    upper = [131200] * 1016 + [147600] * 7 + [last.get("upper", 16500)]
+    lower = [131072] * 1016 + [147456] * 7 + [last.get("lower", 16384)]
+    mean = [256] * 127 + [last.get("mean", 288)]
+    return delivery_file(checker.table_of(largest_model()), Figures(upper, lower, mean))
+
+
+def far_ends():
+    model = largest_model()
+    yield "10,240 bytes and 17,408 bytes", model, largest_certificate()
+    yield "22 at the last record", model, largest_certificate(mean=255)
+    yield "24 at the last entry", model, largest_certificate(upper=16399)
+    yield "25 at the last entry", model, largest_certificate(lower=16501)
+    yield "26 at the last entry", model, largest_certificate(lower=16385)
+    yield "27 at the last row", model, largest_certificate(mean=287)
+    heads = [(0, 0)] + [(0, 2)] + [(q, 0) for q in range(1, 8)]
+    heavy = model_file([(p, 0, q, length, 0, 0, 65528 if length else 1) for p in range(8) for q, length in heads])
+    yield "a shortfall of 19 digits", heavy, delivery_file(checker.table_of(heavy), Figures([TOP] * 64, None, None))
+    certain = model_file([(0, 0, 0, 0, 0, 0, 65536)])
+    yield "the greatest lower", certain, delivery_file(checker.table_of(certain), Figures([TOP], [TOP], None))
+    loop = model_file([(0, 0, 0, 1, 0, 0, 65536)])
+    yield "nothing live", loop, delivery_file(checker.table_of(loop), Figures([0], [0], None))
 
 
 # Random models.
@@ -250,7 +284,7 @@ def random_values(rng, table, figures):
 
 
 def extremes(rng, table, figures):
-    """Values at the two ends of their ranges, for the greatest sums and shortfalls."""
+    """Values at the two ends of their ranges."""
     upper = rng.choice((figures.upper, random_live(rng, table, lambda: rng.choice((0, TOP, TOP)))))
     lower = rng.choice((None, random_live(rng, table, lambda: rng.choice((0, TOP, TOP)))))
     return Figures(upper, lower, rng.choice((None, [rng.choice((MEAN_LEAST, MEAN_TOP)) for _ in table.rows])))
@@ -405,11 +439,11 @@ def family(rng):
 
 
 def cases(seed, count):
-    """`count` cases as (label, model, delivery): the edges of document 01 first, then family after family."""
+    """`count` cases as (label, model, delivery): the edges of document 01 and the far ends first, then family after family."""
     rng, made = random.Random(seed), 0
-    for label, model, delivery, _ in documented_edges():
+    for case in itertools.chain((edge[:3] for edge in documented_edges()), far_ends()):
         if made < count:
-            yield label, model, delivery
+            yield case
         made += 1
     while made < count:
         for case in family(rng):

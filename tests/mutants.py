@@ -1,6 +1,7 @@
 """Shows that the default cases are sharp: each wrong checker below must differ from the right one on some case."""
 import argparse
 import itertools
+import re
 import sys
 
 import checker
@@ -80,9 +81,27 @@ def margin_rounded_up(table, upper):
     return min([-(-slack * ONE // u) for u, slack in live], default=ONE)
 
 
-def margin_over_all(table, upper):
+def margin_undivided(table, upper):
     """Takes the least of u - f(u) without dividing by u."""
     return min([slack * ONE >> 56 for slack, live in zip(checker.slacks(table, upper), table.is_live) if live], default=ONE)
+
+
+def margin_none_is_zero(table, upper):
+    """Takes 0 for the margin where nothing is live."""
+    return RIGHT["margin"](table, upper) if any(table.is_live) else 0
+
+
+def printed_cut(digits):
+    """Prints only the last digits of each number."""
+    def wrong(model, delivery):
+        return re.sub(r"\d+", lambda number: number[0][-digits:], RIGHT["printed"](model, delivery))
+    return wrong
+
+
+def place_cut(model, delivery):
+    """Counts places no further than 2,047."""
+    number, place, shortfall = RIGHT["check_delivery"](model, delivery)
+    return number, place % 2048, shortfall
 
 
 def shape_by_length(preferred):
@@ -170,7 +189,10 @@ MUTANTS = {
     "shortfall of 26 off by one": checks(DEAD, ABOVE, ORDER, shortfall_off_by_one(BELOW), STEPS),
     "shortfall of 27 off by one": checks(DEAD, ABOVE, ORDER, BELOW, shortfall_off_by_one(STEPS)),
     "margin rounded up": {"margin": margin_rounded_up},
-    "margin not divided by u": {"margin": margin_over_all},
+    "margin not divided by u": {"margin": margin_undivided},
+    "margin 0 where nothing is live": {"margin": margin_none_is_zero},
+    "numbers printed by 18 digits": {"printed": printed_cut(18)},
+    "places below 2,048 only": {"check_delivery": place_cut},
     "one state: always UL": {"shape_of": shape_by_length("UL")},
     "one state: always UR": {"shape_of": shape_by_length("UR")},
     "one row's sum unchecked": {"row_sum_refusal": one_row_unchecked},

@@ -1,4 +1,5 @@
 """Runs every command of README.md and compares what it prints; README shows examples/check.c as it is, and its table names every reason."""
+import os
 import re
 import subprocess
 import sys
@@ -6,6 +7,8 @@ from pathlib import Path
 
 ROOT = Path(__file__).resolve().parent.parent
 WHOLE_TEST = "./test\n"  # this test is a part of it
+NEEDS_ROOT = "apt-get install -y gcc python3\n"
+WITHOUT_ROOT = "gcc --version && python3 --version\n"
 BLOCK = re.compile(r"^```(\w+)\n(.*?)^```\n", re.S | re.M)
 REASONS = [*range(10, 16), *range(20, 28), *range(40, 45)]
 
@@ -19,6 +22,8 @@ def blocks(text):
 
 
 def run(commands):
+    if os.geteuid() != 0:
+        commands = commands.replace(NEEDS_ROOT, WITHOUT_ROOT)
     done = subprocess.run(["sh", "-eu", "-c", commands], cwd=ROOT, capture_output=True, text=True)
     if done.returncode:
         sys.exit("README: failed: %s%s%s" % (commands, done.stdout[-2000:], done.stderr[-2000:]))
@@ -27,11 +32,11 @@ def run(commands):
 
 def main():
     text = (ROOT / "README.md").read_text(encoding="utf-8")
-    listed = [kind_content for kind_content in blocks(text)]
+    listed = list(blocks(text))
     kinds = [kind for kind, _, _ in listed]
     if set(kinds) != {"sh", "text", "c"} or kinds.count("c") != 1:
         sys.exit("README: unexpected kinds of blocks: %s" % kinds)
-    commands = 0
+    commands = shown = 0
     for at, (kind, content, joined) in enumerate(listed):
         if kind == "c" and content != (ROOT / "examples/check.c").read_text():
             sys.exit("README: the C program is not examples/check.c")
@@ -39,8 +44,12 @@ def main():
             continue
         printed = run(content)
         commands += content.count("\n")
-        if joined and listed[at + 1][0] == "text" and printed != listed[at + 1][1]:
-            sys.exit("README: %sprinted\n%s" % (content, printed))
+        if joined and listed[at + 1][0] == "text":
+            shown += 1
+            if printed != listed[at + 1][1]:
+                sys.exit("README: %sprinted\n%s" % (content, printed))
+    if shown != kinds.count("text"):
+        sys.exit("README: an output does not stand right after its commands")
     if [int(number) for number in re.findall(r"^\| (\d\d) \|", text, re.M)] != REASONS:
         sys.exit("README: its table does not name the reasons in their order")
     print("README: %d commands run" % commands)

@@ -1,4 +1,4 @@
-"""Holds accepted figures against chances and means summed over runs, in whole numbers only, without the equations wherever figures are judged."""
+"""Holds accepted figures, and the margin that is printed with them, against chances and means summed over runs, in whole numbers only."""
 from functools import lru_cache
 from itertools import islice
 

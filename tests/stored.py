@@ -31,9 +31,10 @@ def shapes():
     """Each shape, with two states and with one, where the kind byte tells UL from UR."""
     one = generate.one_row_model(49152, 16384)
     strict, lower, mean = [ONE + 4096], [ONE - 2], [514]
-    for name, blocks in (("U", {}), ("UL", {"lower": 1}), ("UR", {"mean": 1}), ("ULR", {"lower": 1, "mean": 1})):
-        yield "shape %s, two states" % name, generate.MODEL_W, of_w(lower=W_FIGURES.lower if "lower" in blocks else None, mean=W_FIGURES.mean if "mean" in blocks else None)
-        yield "shape %s, one state" % name, one, certificate(one, strict, lower if "lower" in blocks else None, mean if "mean" in blocks else None)
+    for name in ("U", "UL", "UR", "ULR"):
+        left_out = {block: None for block, letter in (("lower", "L"), ("mean", "R")) if letter not in name}
+        yield "shape %s, two states" % name, generate.MODEL_W, of_w(**left_out)
+        yield "shape %s, one state" % name, one, certificate(one, strict, **{"lower": lower, "mean": mean, **left_out})
     yield "one state, an unknown kind byte counts as UR", one, certificate(one, strict, lower)[:8] + b"X" + certificate(one, strict, lower)[9:]
 
 
@@ -70,12 +71,9 @@ def delivery_refusals():
     yield "lower above f", w, of_w(lower=[630000, 393216, 0, 1048576])
 
 
-def largest():
-    """The largest model, accepted with every block; one record more; files longer than any that can pass."""
-    records = [(p, z, q, 0, 0, 0, 8192) for p in range(8) for z in range(16) for q in range(8)]
-    model = rules(*records)
-    filed = certificate(model, [131200] * 1024, [131072] * 1024, [256] * 128)
-    yield "10,240 bytes and 17,408 bytes", model, filed
+def too_long():
+    """One record more than the largest files have, and files longer than any that can pass."""
+    model, filed = generate.largest_model(), generate.largest_certificate()
     yield "10,250 bytes", model + model[-10:], filed
     yield "17,416 bytes", model, filed + filed[-8:]
     yield "files longer than any that can pass", bytes(20480), bytes(40960)
@@ -87,7 +85,7 @@ def stored_cases():
         if any(due is not None and due != found for due, found in zip(wanted, got)):
             sys.exit("the checker does not give document 01's answer for: " + label)
         yield label, model, delivery
-    for group in (shapes, model_refusals, delivery_refusals, largest):
+    for group in (shapes, model_refusals, delivery_refusals, generate.far_ends, too_long):
         yield from group()
 
 

@@ -17,7 +17,7 @@ ghost use Rattle.equations.specs.Held.{Sized, Starts};
 ghost use Rattle.equations.specs.Products.{product};
 
 // 1 in 1/2^20, which the numbers of a block count.
-const UNIT: u64 = 1048576;
+const ONE: u64 = 1048576;
 
 // The number of entry (p, z, q).
 pub(crate) fn value(block: &[u8], s: usize, g: usize, p: usize, z: usize, q: usize) -> u64
@@ -49,11 +49,11 @@ fn through(model: &[u8], i: usize, block: &[u8], s: usize, g: usize, q: usize) -
     let r = field(model, i, 2);
     let l = field(model, i, 3);
     if l == 0 {
-        return if r == q { UNIT * UNIT } else { 0 };
+        return if r == q { ONE * ONE } else { 0 };
     }
     let y = field(model, i, 4);
     if l == 1 {
-        return UNIT * value(block, s, g, r, y, q);
+        return ONE * value(block, s, g, r, y, q);
     }
     through_two(block, s, g, r, y, field(model, i, 5), q)
 }

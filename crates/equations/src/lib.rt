@@ -6,7 +6,7 @@ use model::sizes::symbols;
 use outcome::Outcome;
 
 pub mod chances; // chances.rt: f at one entry
-pub mod lists; // lists.rt: lists of numbers, compared
+pub mod lists; // lists.rt: numbers of a list, for the register
 pub mod live; // live.rt: the live marks of an accepted model
 pub mod rows; // rows.rt: where each row's records start
 pub mod steps; // steps.rt: the right side of the mean steps' inequality

@@ -1,4 +1,4 @@
-// Lists of 1,024 numbers in file order: uppers, lowers, mean steps and marks.
+// Lists of 1,024 numbers in file order, as the register holds them.
 
 ghost use mathlib.Core.Path.{_≡_};
 ghost use mathlib.Core.Bool.{true};

@@ -3,7 +3,7 @@
 use libc::STDOUT_FILENO;
 ghost use Rattle.io.specs.Counts.{Counts};
 
-// Reads the start of a file into `out`, as much as it holds, and answers how many bytes. A file that is missing or cannot be read counts as empty.
+// Reads the start of a file into `out`, as much as it holds, and answers how many bytes. A file that is missing or cannot be opened counts as empty.
 fn read(path: &[u8], out: &mut [u8]) -> usize
     ensures { λ r. ⌜ Counts r (now (out .exit)) ⌝ }
 {

@@ -7,3 +7,4 @@ pub mod Printed
 pub mod Decimals
 pub mod Signs
 pub mod SelfTest
+pub mod Edges

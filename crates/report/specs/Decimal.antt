@@ -5,7 +5,7 @@ use mathlib.Core.List.{List, [], _∷_, _++_}
 use lib.Dec.{ltb}
 use lib.IntN.{ℤ, pos, negsuc}
 
--- The last k decimal digits of n, the most significant first, with no zeros in front. Digit 0 is 48.
+-- The decimal digits of n, the most significant first; only the last k of them where there are more. Digit 0 is 48.
 unfoldable pub digitsTo : ℕ → ℕ → List ℕ
 digitsTo zero n = []
 digitsTo (suc k) n = cond (ltb n 10) ((48 + n) ∷ []) (digitsTo k (n / 10) ++ ((48 + n % 10) ∷ []))

@@ -10,7 +10,7 @@ use Rattle.delivery.specs.Walks.{Within}
 use Rattle.equations.specs.Held.{Sized, Starts}
 use Rattle.report.specs.declared.Printout.{Printout}
 
--- The bytes of a buffer, more than any report has: 146,176 at most, since no number has more than 20 digits.
+-- The bytes of a buffer, more than any report has: 145,152 at most, since no number has more than 20 digits.
 abbrev pub room : ℕ
 room = 147456
 

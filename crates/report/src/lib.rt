@@ -24,7 +24,6 @@ mod steps; // steps.rt: the lines of the rows' mean steps
 mod text; // text.rt: text in a buffer
 
 ghost use mathlib.Core.Path.{_≡_};
-ghost use mathlib.Core.List.{List, []};
 ghost use Rattle.outcome.specs.Reasons.{numberOf};
 ghost use Rattle.outcome.specs.declared.Outcome.the-variants.{Accepted};
 ghost use Rattle.certificate.specs.Verdict.{verdict};
