@@ -7,7 +7,7 @@ from pathlib import Path
 
 ROOT = Path(__file__).resolve().parent.parent
 WHOLE_TEST = "./test\n"  # this test is a part of it
-NEEDS_ROOT = "apt-get install -y gcc python3\n"
+NEEDS_ROOT = "apt-get install -y --no-upgrade gcc python3\n"
 WITHOUT_ROOT = "gcc --version && python3 --version\n"
 BLOCK = re.compile(r"^```(\w+)\n(.*?)^```\n", re.S | re.M)
 REASONS = [*range(10, 16), *range(20, 28), *range(40, 45)]

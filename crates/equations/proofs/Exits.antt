@@ -12,14 +12,12 @@ use Rattle.ppda.specs.Sums.{bit, sign, sumTo}
 use Rattle.ppda.specs.Rules.{Push, nothing, one, two}
 use Rattle.ppda.specs.Equations.{through, f}
 use Rattle.ppda.proofs.Sums.{sumTo-step}
-use Rattle.ppda.proofs.Places.{row-of}
 use Rattle.model.specs.Records.{target, weight}
 use Rattle.equations.specs.Exits.{bitOf, exitMarks}
 use Rattle.equations.specs.Held.{Sized, Starts}
 use Rattle.equations.specs.Products.{markProduct}
 use Rattle.equations.specs.Rounds.{nextMark}
-use Rattle.equations.proofs.Ranges.{some-symbols}
-use Rattle.equations.proofs.Sums.{sumTo-none, pushAt, RowSum, row-none, row-record, row-more, row-end}
+use Rattle.equations.proofs.Sums.{sumTo-none, pushAt, RowSum, row-begin, row-record, row-more, row-end}
 
 -- ---- signs
 
@@ -132,10 +130,9 @@ pub record ExitTo (b : List ℕ) (s g : ℕ) (marks : List ℕ) (k a e i n q : �
 pub exits-none : (b : List ℕ) (s g : ℕ) (marks : List ℕ) (k : ℕ) (l : List ℕ) → Sized b s g → Starts b g (s * g) l → k < s * g
     → (q : ℕ) → ExitTo b s g marks k (getD l k 0) (getD l (k + 1) 0) (getD l k 0) 0 q
 exits-none b s g marks k l sized starts below q =
-    let (state, symbol, number) = row-of s g k (some-symbols sized) below in
     record {
       count = 0;
-      row = row-none b s g (k / g) (k % g) k 0 (λ r x. through s 1 (exitMarks g marks) r x q) l sized starts state symbol (sym number);
+      row = row-begin k 0 (λ r x. through s 1 (exitMarks g marks) r x q) l sized starts below;
       exit = bit-none q ∙ sym sign-none;
     }
 

@@ -141,7 +141,7 @@ module _ (b : List ℕ) (s g : ℕ) (sized : Sized b s g) (p z k : ℕ) (symbol 
         ap (λ n. c * n) (sized .file .row p z (rw (sized .states) at state) (rw (sized .symbols) at symbol)),
       ))
 
-pub row-none : (b : List ℕ) (s g p z k o : ℕ) (h : ℕ → Push → ℕ) (l : List ℕ) → Sized b s g → Starts b g (s * g) l → p < s → z < g
+row-none : (b : List ℕ) (s g p z k o : ℕ) (h : ℕ → Push → ℕ) (l : List ℕ) → Sized b s g → Starts b g (s * g) l → p < s → z < g
     → k ≡ p * g + z → RowSum b s g p z h k (getD l k 0) (getD l (k + 1) 0) o (getD l k 0) o
 row-none b s g p z k o h l sized starts state symbol number =
     let below : k < s * g = rw number (row-below s g p z state symbol) in

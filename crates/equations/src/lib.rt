@@ -1,5 +1,5 @@
 // The equations of an accepted model, each over its row's records only, and the live marks of any bytes. The functions of the modules
-// serve the checks: each asks what an accepted model gives.
+// serve the crates above: those over a model ask what an accepted one gives.
 
 use model::sizes::states;
 use model::sizes::symbols;
