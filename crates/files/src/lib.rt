@@ -1,7 +1,8 @@
 // Files by name, for the programs.
 
-use libc::STDOUT_FILENO;
+use report::Printout;
 ghost use Rattle.io.specs.Counts.{Counts};
+ghost use Rattle.files.specs.Read.{ReportOnSome};
 
 // Reads the start of a file into `out`, as much as it holds, and answers how many bytes. A file that is missing or cannot be opened counts as empty.
 fn read(path: &[u8], out: &mut [u8]) -> usize
@@ -16,15 +17,13 @@ fn read(path: &[u8], out: &mut [u8]) -> usize
     n
 }
 
-// Prints the report on a model file and a delivery file, in one write. One byte more than any accepted file has is read, so that a longer file is
-// refused by its number.
-pub fn print_report(model_path: &[u8], delivery_path: &[u8]) {
+// The report on a model file and a delivery file. One byte more than any accepted file has is read, so that a longer file is refused by its number.
+pub fn report_on(model_path: &[u8], delivery_path: &[u8]) -> Printout
+    ensures { λ r. ⌜ ReportOnSome r ⌝ }
+{
     let mut model = [0u8; 10241];
     let m = read(model_path, &mut model);
     let mut delivery = [0u8; 17409];
     let d = read(delivery_path, &mut delivery);
-    let printout = report::of_files(&model[..m], &delivery[..d]);
-    let length = printout.length;
-    let bytes = printout.bytes;
-    io::write_all(STDOUT_FILENO, &bytes[..length]);
+    report::of_files(&model[..m], &delivery[..d])
 }

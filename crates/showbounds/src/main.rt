@@ -1,7 +1,12 @@
-// Prints what a register shows of model.tab and bounds.cer in the working folder, or why it refuses them. A missing file counts as empty.
+// Prints what a register shows of model.tab and bounds.cer in the working folder, or why it refuses them, in one write. A missing file counts as
+// empty.
 
 fn main() {
-    if report::self_test::passes() {
-        files::print_report(b"model.tab", b"bounds.cer");
+    if !report::self_test::passes() {
+        return;
     }
+    let printout = files::report_on(b"model.tab", b"bounds.cer");
+    let length = printout.length;
+    let bytes = printout.bytes;
+    io::write_all(libc::STDOUT_FILENO, &bytes[..length]);
 }

@@ -1,10 +1,7 @@
--- `print_report`: what is read and what is printed are parts of their buffers.
-use native.Mathlib.Omega.{arith}
-use mathlib.Core.Path.{sym}
-use lib.Seq.{length-take-le}
+-- `report_on`: the report on the two parts that were read.
 use borrow.Author.Needs.{needs}
-use Rattle.files.proofs.print_report.Statement.{statement}
-use Rattle.files.proofs.print_report.Tie as tie
+use Rattle.files.proofs.report_on.Statement.{statement}
+use Rattle.files.proofs.report_on.Tie as tie
 
 slice-aggregate-read : tie.Need-slice-aggregate-read
 slice-aggregate-read c = search needs
@@ -33,20 +30,11 @@ slice-aggregate-of-files-2 c = search needs
 of-files-requires : tie.Need-of-files-requires
 of-files-requires c κs = search needs
 
-array-share-prefix-bytes : tie.Need-array-share-prefix-bytes
-array-share-prefix-bytes c = search needs
-
-slice-aggregate-write-all : tie.Need-slice-aggregate-write-all
-slice-aggregate-write-all c = let held = c .before .before .of-files .ensures in sym (length-take-le _ _ (omega (arith, held .size, held .fits)))
-
-write-all-requires : tie.Need-write-all-requires
-write-all-requires c κs = search needs
-
 returns : tie.Need-returns
-returns c = search needs
+returns c = record { model = _; delivery = _; report = c .of-files .ensures }
 
-pub print-report-spec : {M : Type 1} → statement M
-print-report-spec =
+pub report-on-spec : {M : Type 1} → statement M
+report-on-spec =
     tie.close
     (tie.spec
     slice-aggregate-read
@@ -58,7 +46,4 @@ print-report-spec =
     array-share-prefix-delivery
     slice-aggregate-of-files-2
     of-files-requires
-    array-share-prefix-bytes
-    slice-aggregate-write-all
-    write-all-requires
     returns)
