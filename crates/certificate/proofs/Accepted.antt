@@ -34,8 +34,9 @@ use Rattle.delivery.specs.declared.shape.Shape.{Shape}
 use Rattle.delivery.specs.declared.shape.Shaped.{Shaped}
 use Rattle.delivery.specs.declared.shape.Shaped.the-variants.{Of, Unknown}
 use Rattle.delivery.specs.Records.{byteOf, valueOf, kindOf, leastOf, mostOf}
-use Rattle.delivery.specs.Shapes.{entriesIn, hasLowers, hasMeans, meansFrom, shapeOf}
-use Rattle.delivery.specs.Numbers.{entryAt, rowAt, uppersOf, lowersOf, meansOf}
+use Rattle.delivery.specs.Shapes.{hasLowers, hasMeans, meansFrom, shapeOf}
+use Rattle.ppda.specs.Order.{entriesIn, entryAt, rowAt}
+use Rattle.delivery.specs.Numbers.{uppersOf, lowersOf, meansOf}
 use Rattle.delivery.specs.Layout.{eachEntry, eachRow, onlyIf, isDue, inRange, recordTests, upperRecords, lowerRecords, meanRecords, layoutTests}
 use Rattle.inequalities.specs.Inequalities.{deadTest, upperTest, belowTest, lowerTest, meanTest, deadTests, upperTests, belowTests, lowerTests, meanTests}
 use Rattle.certificate.specs.Verdict.{numberTests, shapedTests, deliveryTests, verdict}

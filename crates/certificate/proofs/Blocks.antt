@@ -17,8 +17,8 @@ use Rattle.ppda.specs.Rules.{Rule, IsModel}
 use Rattle.ppda.specs.Equations.{Vector, RowVector, entries, rows, f}
 use Rattle.model.specs.Rules.{rulesOf}
 use Rattle.delivery.specs.Records.{valueOf}
-use Rattle.delivery.specs.Shapes.{entriesIn}
-use Rattle.delivery.specs.Numbers.{entryAt, rowAt, uppersOf, rowsOfBlock}
+use Rattle.ppda.specs.Order.{entriesIn, entryAt, rowAt}
+use Rattle.delivery.specs.Numbers.{uppersOf, rowsOfBlock}
 use Rattle.delivery.specs.Layout.{eachEntry, eachRow}
 use Rattle.delivery.specs.Walks.{Values, Within}
 use Rattle.delivery.proofs.Walks.{entries-by-number}

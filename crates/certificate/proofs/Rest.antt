@@ -17,8 +17,9 @@ use Rattle.ppda.proofs.Places.{row-split}
 use Rattle.delivery.specs.declared.shape.Shape.{Shape}
 use Rattle.delivery.specs.declared.shape.Shaped.the-variants.{Of}
 use Rattle.delivery.specs.Records.{valueOf}
-use Rattle.delivery.specs.Shapes.{entriesIn, rowsIn, hasLowers, hasMeans, meansFrom, recordsIn, shapeOf}
-use Rattle.delivery.specs.Numbers.{entryAt, rowAt, uppersOf, lowersOf, meansOf, rowsOfBlock}
+use Rattle.delivery.specs.Shapes.{hasLowers, hasMeans, meansFrom, recordsIn, shapeOf}
+use Rattle.ppda.specs.Order.{entriesIn, rowsIn, entryAt, rowAt}
+use Rattle.delivery.specs.Numbers.{uppersOf, lowersOf, meansOf, rowsOfBlock}
 use Rattle.delivery.specs.Layout.{layoutTests}
 use Rattle.delivery.specs.Walks.{Within}
 use Rattle.delivery.proofs.Shapes.{shape-long, uppers-fit, lowers-fit}

@@ -16,7 +16,8 @@ use Rattle.delivery.specs.declared.shape.Shaped.the-variants.{Of}
 use Rattle.delivery.specs.Shapes.{hasLowers, shapeOf}
 use Rattle.delivery.specs.Numbers.{uppersOf}
 use Rattle.equations.specs.Exits.{exitMarks}
-use Rattle.equations.specs.Held.{Sized, Same}
+use Rattle.equations.specs.Held.{Same}
+use Rattle.model.specs.Accepted.{Sized}
 use Rattle.equations.proofs.Ranges.{sized-model}
 use Rattle.equations.proofs.Vectors.{f-same}
 use Rattle.inequalities.specs.Shares.{Strict, leastShare}

@@ -21,12 +21,14 @@ use Rattle.model.specs.Verdict.{modelTests, modelVerdict}
 use Rattle.delivery.specs.declared.shape.Shape.{Shape}
 use Rattle.delivery.specs.declared.shape.Shaped.{Shaped}
 use Rattle.delivery.specs.declared.shape.Shaped.the-variants.{Of, Unknown}
-use Rattle.delivery.specs.Shapes.{entriesIn, rowsIn, hasLowers, hasMeans, meansFrom, shapeOf}
+use Rattle.delivery.specs.Shapes.{hasLowers, hasMeans, meansFrom, shapeOf}
+use Rattle.ppda.specs.Order.{entriesIn, rowsIn}
 use Rattle.delivery.specs.Numbers.{uppersOf}
 use Rattle.delivery.specs.Layout.{eachEntry, eachRow, onlyIf, layoutTests}
 use Rattle.delivery.specs.Walks.{Within}
 use Rattle.equations.specs.Exits.{exitMarks}
-use Rattle.equations.specs.Held.{Sized, ExitsOf}
+use Rattle.equations.specs.Held.{ExitsOf}
+use Rattle.model.specs.Accepted.{Sized}
 use Rattle.equations.proofs.Ranges.{few-states, few-symbols, some-symbols, sized-model}
 use Rattle.inequalities.specs.Inequalities.{deadTests, upperTests, belowTests, lowerTests}
 use Rattle.inequalities.specs.declared.sides.Side.the-variants.{Upper, StrictUpper, Lower}

@@ -14,8 +14,9 @@ use Rattle.delivery.specs.declared.shape.Block.the-variants.{Uppers, Lowers, Me
 use Rattle.delivery.specs.declared.shape.Shape.{Shape}
 use Rattle.delivery.specs.declared.shape.Shaped.the-variants.{Of}
 use Rattle.delivery.specs.Records.{byteOf, valueOf, kindOf, leastOf, mostOf}
-use Rattle.delivery.specs.Shapes.{entriesIn, hasLowers, hasMeans, meansFrom, shapeOf}
-use Rattle.delivery.specs.Numbers.{entryAt, rowAt, uppersOf, lowersOf, meansOf}
+use Rattle.delivery.specs.Shapes.{hasLowers, hasMeans, meansFrom, shapeOf}
+use Rattle.ppda.specs.Order.{entriesIn, entryAt, rowAt}
+use Rattle.delivery.specs.Numbers.{uppersOf, lowersOf, meansOf}
 
 -- Record i is the one due there (21), with a value in range (22).
 pub record RecordDue (d : List ℕ) (i : ℕ) (k : Block) (p z q : ℕ) : Type 0 where

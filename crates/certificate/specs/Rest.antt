@@ -9,7 +9,8 @@ use Rattle.outcome.specs.Tests.{Test}
 use Rattle.ppda.specs.Equations.{Vector}
 use Rattle.model.specs.Rules.{rulesOf}
 use Rattle.delivery.specs.declared.shape.Shape.{Shape}
-use Rattle.delivery.specs.Shapes.{entriesIn, rowsIn, hasLowers, hasMeans, meansFrom}
+use Rattle.delivery.specs.Shapes.{hasLowers, hasMeans, meansFrom}
+use Rattle.ppda.specs.Order.{entriesIn, rowsIn}
 use Rattle.delivery.specs.Numbers.{uppersOf, rowsOfBlock}
 use Rattle.delivery.specs.Layout.{onlyIf}
 use Rattle.delivery.specs.Walks.{Within}

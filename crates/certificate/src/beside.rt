@@ -16,7 +16,7 @@ ghost use Rattle.outcome.specs.declared.Outcome.the-variants.{Accepted};
 ghost use Rattle.model.specs.Verdict.{modelVerdict};
 ghost use Rattle.delivery.specs.declared.shape.Shaped.the-variants.{Of};
 ghost use Rattle.delivery.specs.Shapes.{shapeOf};
-ghost use Rattle.equations.specs.Held.{Sized};
+ghost use Rattle.model.specs.Accepted.{Sized};
 ghost use Rattle.certificate.specs.Verdict.{shapedTests, verdict};
 
 // The tests 21 to 27 of a delivery whose shape is known.

@@ -10,7 +10,7 @@ ghost use mathlib.Core.Bool.{true};
 ghost use Rattle.outcome.specs.declared.Outcome.the-variants.{Accepted};
 ghost use Rattle.delivery.specs.declared.shape.Shaped.the-variants.{Of};
 ghost use Rattle.delivery.specs.Shapes.{hasLowers, shapeOf};
-ghost use Rattle.equations.specs.Held.{Sized};
+ghost use Rattle.model.specs.Accepted.{Sized};
 ghost use Rattle.certificate.specs.Verdict.{verdict};
 ghost use Rattle.certificate.specs.Margin.{marginOf};
 

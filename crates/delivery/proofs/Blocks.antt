@@ -13,8 +13,8 @@ use Rattle.outcome.proofs.Tests.{first-empty, first-after, first-stands, each-c
 use Rattle.delivery.specs.declared.shape.Block.{Block}
 use Rattle.delivery.specs.declared.shape.Block.the-variants.{Uppers, Lowers, Means}
 use Rattle.delivery.specs.declared.shape.Shape.{Shape}
-use Rattle.delivery.specs.Numbers.{entryAt}
-use Rattle.delivery.specs.Shapes.{entriesIn, hasLowers, hasMeans, meansFrom}
+use Rattle.delivery.specs.Shapes.{hasLowers, hasMeans, meansFrom}
+use Rattle.ppda.specs.Order.{entriesIn, entryAt}
 use Rattle.delivery.specs.Layout.{eachEntry, eachRow, onlyIf, isDue, inRange, recordTests, upperRecords, lowerRecords, meanRecords, layoutTests}
 use Rattle.delivery.specs.Walks.{stateOfBlock}
 

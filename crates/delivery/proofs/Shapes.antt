@@ -17,7 +17,8 @@ use Rattle.delivery.specs.declared.shape.Shaped.{Shaped}
 use Rattle.delivery.specs.declared.shape.Shaped.the-variants.{Of, Unknown}
 use Rattle.delivery.specs.declared.shape.Block.the-variants.{Lowers}
 use Rattle.delivery.specs.Records.{byteOf, kindOf}
-use Rattle.delivery.specs.Shapes.{entriesIn, rowsIn, hasLowers, hasMeans, meansFrom, recordsIn, longAs, lowersOrMeans, shapeOf}
+use Rattle.delivery.specs.Shapes.{hasLowers, hasMeans, meansFrom, recordsIn, longAs, lowersOrMeans, shapeOf}
+use Rattle.ppda.specs.Order.{entriesIn, rowsIn}
 
 -- ---- lengths
 

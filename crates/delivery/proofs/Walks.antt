@@ -16,7 +16,7 @@ use Rattle.ppda.proofs.Places.{row-at}
 use Rattle.outcome.specs.Tests.{Test, each}
 use Rattle.outcome.proofs.Tests.{each-cong}
 use Rattle.delivery.specs.Records.{valueOf}
-use Rattle.delivery.specs.Numbers.{entryAt}
+use Rattle.ppda.specs.Order.{entryAt}
 use Rattle.delivery.specs.Layout.{eachEntry, eachRow}
 use Rattle.delivery.specs.Walks.{Values}
 

@@ -9,8 +9,8 @@ use Rattle.delivery.specs.declared.shape.Block.{Block}
 use Rattle.delivery.specs.declared.shape.Block.the-variants.{Uppers, Lowers, Means}
 use Rattle.delivery.specs.declared.shape.Shape.{Shape}
 use Rattle.delivery.specs.Records.{byteOf, valueOf, kindOf, leastOf, mostOf}
-use Rattle.delivery.specs.Shapes.{entriesIn, hasLowers, hasMeans, meansFrom}
-use Rattle.delivery.specs.Numbers.{entryAt, rowAt}
+use Rattle.delivery.specs.Shapes.{hasLowers, hasMeans, meansFrom}
+use Rattle.ppda.specs.Order.{entriesIn, entryAt, rowAt}
 
 -- The tests of all entries of a model with s states and g symbols, ascending by (p, Z, q), and of all rows, ascending by (p, Z).
 unfoldable pub eachEntry : ℕ → ℕ → (ℕ → ℕ → ℕ → List Test) → List Test

@@ -4,14 +4,8 @@ use mathlib.Core.List.{List}
 use Rattle.ppda.specs.Equations.{Vector, RowVector}
 use Rattle.delivery.specs.declared.shape.Shape.{Shape}
 use Rattle.delivery.specs.Records.{valueOf}
-use Rattle.delivery.specs.Shapes.{entriesIn, meansFrom}
-
--- The number of the entry (p, z, q) in a block, and of the row (p, z).
-abbrev pub entryAt : ℕ → ℕ → ℕ → ℕ → ℕ → ℕ
-entryAt s g p z q = (p * g + z) * s + q
-
-abbrev pub rowAt : ℕ → ℕ → ℕ → ℕ
-rowAt g p z = p * g + z
+use Rattle.delivery.specs.Shapes.{meansFrom}
+use Rattle.ppda.specs.Order.{entriesIn, entryAt, rowAt}
 
 -- The uppers, the lowers and the mean steps of a file.
 unfoldable pub uppersOf : ℕ → ℕ → List ℕ → Vector

@@ -10,13 +10,7 @@ use Rattle.delivery.specs.declared.shape.Shaped.{Shaped}
 use Rattle.delivery.specs.declared.shape.Shaped.the-variants.{Of, Unknown}
 use Rattle.delivery.specs.declared.shape.Block.the-variants.{Lowers}
 use Rattle.delivery.specs.Records.{byteOf, kindOf}
-
--- V, the number of entries (p, Z, q) of a model with s states and g symbols, and the number of its rows (p, Z).
-abbrev pub entriesIn : ℕ → ℕ → ℕ
-entriesIn s g = s * g * s
-
-abbrev pub rowsIn : ℕ → ℕ → ℕ
-rowsIn s g = s * g
+use Rattle.ppda.specs.Order.{entriesIn, rowsIn}
 
 -- Whether a shape has lowers, and whether it has mean steps.
 abbrev pub hasLowers : Shape → Bool

@@ -14,7 +14,8 @@ use Rattle.ppda.specs.Equations.{through, f}
 use Rattle.ppda.proofs.Sums.{sumTo-step}
 use Rattle.model.specs.Records.{target, weight}
 use Rattle.equations.specs.Exits.{bitOf, exitMarks}
-use Rattle.equations.specs.Held.{Sized, Starts}
+use Rattle.equations.specs.Held.{Starts}
+use Rattle.model.specs.Accepted.{Sized}
 use Rattle.equations.specs.Products.{markProduct}
 use Rattle.equations.specs.Rounds.{nextMark}
 use Rattle.equations.proofs.Sums.{sumTo-none, pushAt, RowSum, row-begin, row-record, row-more, row-end}

@@ -19,7 +19,8 @@ use Rattle.model.specs.Rules.{rulesOf}
 use Rattle.ppda.proofs.Lists.{getD-zeros}
 use Rattle.ppda.proofs.Places.{row-at, row-below, entry-below}
 use Rattle.equations.specs.Exits.{bitOf, exitMarks}
-use Rattle.equations.specs.Held.{Sized, Same, ExitsOf, Marks}
+use Rattle.equations.specs.Held.{Same, ExitsOf, Marks}
+use Rattle.model.specs.Accepted.{Sized}
 use Rattle.equations.specs.Rounds.{nextMark, NextExits, RoundTo}
 use Rattle.equations.proofs.Exits.{bit-none}
 use Rattle.equations.proofs.Ranges.{set-more, sized-model}

@@ -17,7 +17,8 @@ use Rattle.model.proofs.Records.{target-below, top-below, under-below, states-m
 use Rattle.model.specs.Rules.{rulesOf, rowOf}
 use Rattle.model.proofs.Rows.{rows-ascend}
 use Rattle.model.proofs.Accepted.{is-model}
-use Rattle.equations.specs.Held.{Sized, StartsAt, Starts}
+use Rattle.equations.specs.Held.{StartsAt, Starts}
+use Rattle.model.specs.Accepted.{Sized}
 
 -- An entry's place is one of 1,024.
 pub place : (row s q : ℕ) → row < 128 → s < 9 → q < 8 → row * s + q < 1024

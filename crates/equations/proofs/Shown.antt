@@ -15,7 +15,8 @@ use Rattle.model.specs.Rules.{rulesOf}
 use Rattle.model.specs.Verdict.{modelVerdict}
 use Rattle.model.proofs.Accepted.{model-accepted, is-model}
 use Rattle.equations.specs.Exits.{exitMarks}
-use Rattle.equations.specs.Held.{Sized, ExitsOf, Marks}
+use Rattle.equations.specs.Held.{ExitsOf, Marks}
+use Rattle.model.specs.Accepted.{Sized}
 use Rattle.equations.specs.Shown.{liveMark}
 
 -- An accepted model with its sizes.

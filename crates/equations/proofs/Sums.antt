@@ -17,7 +17,8 @@ use Rattle.model.specs.Records.{recordsOf, target, pushes, top, under, weight}
 use Rattle.model.specs.Rules.{pushOf, ruleOf, rulesOf, rowOf}
 use Rattle.model.proofs.Records.{over-row}
 use Rattle.model.proofs.Rows.{row-fits}
-use Rattle.equations.specs.Held.{Sized, StartsAt, Starts}
+use Rattle.equations.specs.Held.{StartsAt, Starts}
+use Rattle.model.specs.Accepted.{Sized}
 use Rattle.equations.proofs.Ranges.{some-symbols, starts-ascend}
 
 -- ---- sums by their last term

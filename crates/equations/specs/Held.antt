@@ -6,7 +6,7 @@ use lib.ListN.{length, getD}
 use Rattle.ppda.specs.Equations.{Vector, entries}
 use Rattle.model.specs.Records.{recordsOf, statesOf, symbolsOf}
 use Rattle.model.specs.Rules.{rowOf}
-use Rattle.model.specs.Accepted.{ModelFile}
+use Rattle.model.specs.Accepted.{ModelFile, Sized}
 use Rattle.equations.specs.Exits.{exitMarks}
 
 -- An accepted model file with s states and g symbols.

@@ -13,7 +13,8 @@ ghost use Rattle.ppda.specs.Live.{alive};
 ghost use Rattle.model.specs.Records.{recordsOf, target, pushes, top, under};
 ghost use Rattle.model.specs.Rules.{pushOf, rulesOf};
 ghost use Rattle.equations.specs.Exits.{bitOf, exitMarks};
-ghost use Rattle.equations.specs.Held.{Sized, Starts, ExitsOf, Marks};
+ghost use Rattle.equations.specs.Held.{Starts, ExitsOf, Marks};
+ghost use Rattle.model.specs.Accepted.{Sized};
 ghost use Rattle.equations.specs.Products.{markProduct};
 ghost use Rattle.equations.specs.Rounds.{NextExits, RoundTo};
 

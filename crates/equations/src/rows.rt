@@ -8,7 +8,8 @@ ghost use Prim.Native.Nat.{ℕ, _*_, _≤_, _<_};
 ghost use lib.ListN.{length};
 ghost use Rattle.model.specs.Records.{recordsOf};
 ghost use Rattle.model.specs.Rules.{rowOf};
-ghost use Rattle.equations.specs.Held.{Sized, StartsAt, Starts};
+ghost use Rattle.equations.specs.Held.{StartsAt, Starts};
+ghost use Rattle.model.specs.Accepted.{Sized};
 
 // The first record from i on that is of row k or a later one, where all before i are of earlier rows.
 fn start(model: &[u8], s: usize, g: usize, k: usize, i: usize) -> usize

@@ -14,7 +14,8 @@ ghost use Rattle.model.specs.Records.{recordsOf, target, pushes, top, under};
 ghost use Rattle.model.specs.Rules.{pushOf, rulesOf};
 ghost use Rattle.delivery.specs.Numbers.{uppersOf, rowsOfBlock};
 ghost use Rattle.delivery.specs.Walks.{Within};
-ghost use Rattle.equations.specs.Held.{Sized, Starts};
+ghost use Rattle.equations.specs.Held.{Starts};
+ghost use Rattle.model.specs.Accepted.{Sized};
 ghost use Rattle.equations.specs.Products.{stepsProduct};
 
 // 1 in 1/2^20, which uppers count.

@@ -17,9 +17,11 @@ use Rattle.model.specs.Verdict.{modelVerdict}
 use Rattle.model.proofs.Accepted.{model-accepted}
 use Rattle.delivery.specs.Records.{byteOf, valueOf}
 use Rattle.delivery.specs.declared.shape.Shaped.the-variants.{Of}
-use Rattle.delivery.specs.Shapes.{entriesIn, hasLowers, hasMeans, shapeOf}
+use Rattle.delivery.specs.Shapes.{hasLowers, hasMeans, shapeOf}
+use Rattle.ppda.specs.Order.{entriesIn}
 use Rattle.delivery.specs.Numbers.{uppersOf, lowersOf, meansOf}
-use Rattle.equations.specs.Held.{Sized, Same}
+use Rattle.equations.specs.Held.{Same}
+use Rattle.model.specs.Accepted.{Sized}
 use Rattle.equations.specs.Shown.{liveMark}
 use Rattle.equations.proofs.Ranges.{few-rows, few-entries}
 use Rattle.equations.proofs.Shown.{sized-of}

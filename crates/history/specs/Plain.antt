@@ -14,7 +14,8 @@ use Rattle.delivery.specs.declared.shape.Shape.{Shape}
 use Rattle.delivery.specs.declared.shape.Shaped.{Shaped}
 use Rattle.delivery.specs.declared.shape.Shaped.the-variants.{Of, Unknown}
 use Rattle.delivery.specs.Records.{byteOf, valueOf}
-use Rattle.delivery.specs.Shapes.{entriesIn, hasLowers, hasMeans, shapeOf}
+use Rattle.delivery.specs.Shapes.{hasLowers, hasMeans, shapeOf}
+use Rattle.ppda.specs.Order.{entriesIn}
 use Rattle.delivery.specs.Numbers.{uppersOf, lowersOf, meansOf}
 use Rattle.equations.specs.Shown.{liveMark}
 use Rattle.certificate.specs.Verdict.{verdict}

@@ -8,8 +8,7 @@ use Rattle.outcome.specs.declared.Reason.the-variants.{DeadNotZero, UpperTooSma
 use Rattle.outcome.specs.Tests.{Test, plain}
 use Rattle.ppda.specs.Rules.{Rule}
 use Rattle.ppda.specs.Equations.{Vector, RowVector, f, meanSide}
-use Rattle.delivery.specs.Shapes.{entriesIn}
-use Rattle.delivery.specs.Numbers.{entryAt, rowAt}
+use Rattle.ppda.specs.Order.{entriesIn, entryAt, rowAt}
 use Rattle.delivery.specs.Layout.{eachEntry, eachRow}
 
 -- At place i, an entry with the live mark a has the value v: a dead entry is 0.

@@ -6,7 +6,8 @@ use Rattle.outcome.specs.Tests.{Test}
 use Rattle.ppda.specs.Equations.{f, meanSide}
 use Rattle.model.specs.Rules.{rulesOf}
 use Rattle.delivery.specs.Records.{valueOf}
-use Rattle.delivery.specs.Numbers.{entryAt, rowAt, uppersOf, rowsOfBlock}
+use Rattle.delivery.specs.Numbers.{uppersOf, rowsOfBlock}
+use Rattle.ppda.specs.Order.{entryAt, rowAt}
 use Rattle.equations.specs.Exits.{exitMarks}
 use Rattle.inequalities.specs.declared.sides.Side.{Side}
 use Rattle.inequalities.specs.declared.sides.Side.the-variants.{Upper, StrictUpper, Lower}

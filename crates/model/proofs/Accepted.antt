@@ -15,29 +15,34 @@ use Rattle.outcome.specs.declared.Outcome.the-variants.{Accepted, Refused}
 use Rattle.outcome.specs.Tests.{Test, refusal, first, each, Passed, FirstFailure}
 use Rattle.outcome.proofs.Exactly.{lt-exactly, le-exactly, eq-exactly, both, or-exactly, not-exactly}
 use Rattle.outcome.proofs.Tests.{accepted-exactly, refused-exactly, first-failure, passed-append, passed-each}
+use Rattle.ppda.specs.Units.{weightUnit}
+use Rattle.ppda.specs.Order.{rowsIn, rowAt}
 use Rattle.ppda.specs.Rules.{pushed, Below, IsRule, IsModel}
-use Rattle.model.specs.Records.{recordsOf, statesOf, symbolsOf, state, symbol, target, pushes, top, under, weight, key}
+use Rattle.model.specs.Format.{recordBytes, mostBytes, mostStates, mostSymbols, mostPushes}
+use Rattle.model.specs.Records.{HasRecord, recordsOf, statesOf, symbolsOf, state, symbol, target, pushes, top, under, weight, key}
 use Rattle.model.specs.Rules.{pushOf, ruleOf, rulesOf, rowSum}
-use Rattle.model.specs.Verdict.{wholeRecords, rangeAt, unusedAt, weightAt, above, ascends, recordTests, rowTests, modelTests, modelVerdict}
-use Rattle.model.specs.Accepted.{RecordRight, Above, RecordsRight, ModelFile}
-use Rattle.model.proofs.Records.{in-listTo, state-below, target-below, symbol-below, top-below, under-below}
+use Rattle.model.specs.Verdict.{wholeRecords, rangeAt, unusedAt, weightAt, above, ascends, recordTests, rowTests, rowsTests, modelTests, modelVerdict}
+use Rattle.model.specs.Accepted.{RecordRight, Above, RecordsRight, ModelFile, Sized}
+use Rattle.model.specs.Sizes.{Fits}
+use Rattle.model.proofs.Records.{in-listTo, sizes-fit, state-below, target-below, symbol-below, top-below, under-below}
 use Rattle.model.proofs.Rows.{row-sum}
 
 -- ---- tests and what they say
 
-whole-exactly : (n : ℕ) → (wholeRecords n ≡ true) ↔ ((0 < n) × ((n % 10 ≡ 0) × (n ≤ 10240)))
+whole-exactly : (n : ℕ) → (wholeRecords n ≡ true) ↔ ((0 < n) × ((n % recordBytes ≡ 0) × (n ≤ mostBytes)))
 unfolding wholeRecords
-whole-exactly n = both (ltb 0 n) _ (lt-exactly 0 n) (both (eqb (n % 10) 0) _ (eq-exactly (n % 10) 0) (le-exactly n 10240))
+whole-exactly n = both (ltb 0 n) _ (lt-exactly 0 n) (both (eqb (n % recordBytes) 0) _ (eq-exactly (n % recordBytes) 0) (le-exactly n mostBytes))
 
 range-exactly : (b : List ℕ) (i : ℕ) → (rangeAt b i ≡ true)
-    ↔ ((state b i ≤ 7) × ((symbol b i ≤ 15) × ((target b i ≤ 7) × ((pushes b i ≤ 2) × ((top b i ≤ 15) × (under b i ≤ 15))))))
+    ↔ ((state b i < mostStates) × ((symbol b i < mostSymbols) × ((target b i < mostStates)
+    × ((pushes b i ≤ mostPushes) × ((top b i < mostSymbols) × (under b i < mostSymbols))))))
 unfolding rangeAt
 range-exactly b i =
-    both (leb (state b i) 7) _ (le-exactly (state b i) 7)
-    (both (leb (symbol b i) 15) _ (le-exactly (symbol b i) 15)
-    (both (leb (target b i) 7) _ (le-exactly (target b i) 7)
-    (both (leb (pushes b i) 2) _ (le-exactly (pushes b i) 2)
-    (both (leb (top b i) 15) (leb (under b i) 15) (le-exactly (top b i) 15) (le-exactly (under b i) 15)))))
+    both (ltb (state b i) mostStates) _ (lt-exactly (state b i) mostStates)
+    (both (ltb (symbol b i) mostSymbols) _ (lt-exactly (symbol b i) mostSymbols)
+    (both (ltb (target b i) mostStates) _ (lt-exactly (target b i) mostStates)
+    (both (leb (pushes b i) mostPushes) _ (le-exactly (pushes b i) mostPushes)
+    (both (ltb (top b i) mostSymbols) (ltb (under b i) mostSymbols) (lt-exactly (top b i) mostSymbols) (lt-exactly (under b i) mostSymbols)))))
 
 unused-tests : (l y x : ℕ) → (((ltb 0 l || eqb y 0) && (eqb l 2 || eqb x 0)) ≡ true) ↔ ((l ≡ 0 → y ≡ 0) × ((l ≡ 2 → ⊥) → x ≡ 0))
 unused-tests l y x = both (ltb 0 l || eqb y 0) (eqb l 2 || eqb x 0) top under
@@ -59,9 +64,9 @@ unused-exactly : (b : List ℕ) (i : ℕ)
 unfolding unusedAt
 unused-exactly b i = unused-tests (pushes b i) (top b i) (under b i)
 
-weight-exactly : (b : List ℕ) (i : ℕ) → (weightAt b i ≡ true) ↔ ((1 ≤ weight b i) × (weight b i ≤ 65536))
+weight-exactly : (b : List ℕ) (i : ℕ) → (weightAt b i ≡ true) ↔ ((1 ≤ weight b i) × (weight b i ≤ weightUnit))
 unfolding weightAt
-weight-exactly b i = both (ltb 0 (weight b i)) (leb (weight b i) 65536) (lt-exactly 0 (weight b i)) (le-exactly (weight b i) 65536)
+weight-exactly b i = both (ltb 0 (weight b i)) (leb (weight b i) weightUnit) (lt-exactly 0 (weight b i)) (le-exactly (weight b i) weightUnit)
 
 -- One place of two lists: greater there, or equal there and above in the rest.
 above-step : {A : Type 0} (m n : ℕ) (t : Bool) → (t ≡ true) ↔ A → ((ltb n m || (eqb m n && t)) ≡ true) ↔ ((n < m) ⊎ ((m ≡ n) × A))
@@ -118,7 +123,7 @@ record-exactly b i = (
   ),
 )
 
-row-exactly : (b : List ℕ) (k : ℕ) → Passed (rowTests b k) ↔ (rowSum b (symbolsOf b) k ≡ 65536)
+row-exactly : (b : List ℕ) (k : ℕ) → Passed (rowTests b k) ↔ (rowSum b (symbolsOf b) k ≡ weightUnit)
 unfolding rowTests
 row-exactly b k = (λ h. eqb-true _ _ (not-false _ (h .0)), λ e. (not-exactly _ .1 (eq-eqb _ _ e), tt))
 
@@ -141,32 +146,32 @@ records-right b e f =
     record { some = omega arith; most = omega arith; whole = omega arith; right = λ i l. record-exactly b i .0 (records i l) .0 }
 
 file-of-passed : (b : List ℕ) → Passed (modelTests b) → ModelFile b
-unfolding modelTests
+unfolding modelTests rowsTests
 file-of-passed b h =
     let whole = not-false _ (h .0) in
-    let parts = passed-append (each (recordsOf b) (recordTests b)) (each (statesOf b * symbolsOf b) (rowTests b)) .0 (h .1) in
+    let parts = passed-append (each (recordsOf b) (recordTests b)) (each (rowsIn (statesOf b) (symbolsOf b)) (rowTests b)) .0 (h .1) in
     let records = passed-each (recordsOf b) (recordTests b) .0 (parts .0) in
-    let rows = passed-each (statesOf b * symbolsOf b) (rowTests b) .0 (parts .1) in
+    let rows = passed-each (rowsIn (statesOf b) (symbolsOf b)) (rowTests b) .0 (parts .1) in
     record {
       records = records-right b whole (accepted-exactly (each (recordsOf b) (recordTests b)) .1 (parts .0));
       ascending = λ i l. above-of-ascends b i (record-exactly b (suc i) .0 (records (suc i) l) .1);
       row = λ p z hp hz.
           sym (row-sum b p z hz)
-          ∙ row-exactly b (p * symbolsOf b + z) .0 (rows (p * symbolsOf b + z) (row-below (statesOf b) (symbolsOf b) p z hp hz));
+          ∙ row-exactly b (rowAt (symbolsOf b) p z) .0 (rows (rowAt (symbolsOf b) p z) (row-below (statesOf b) (symbolsOf b) p z hp hz));
     }
 
-passed-row : (b : List ℕ) → ModelFile b → (k : ℕ) → k < statesOf b * symbolsOf b → Passed (rowTests b k)
+passed-row : (b : List ℕ) → ModelFile b → (k : ℕ) → k < rowsIn (statesOf b) (symbolsOf b) → Passed (rowTests b k)
 passed-row b m k l =
     let (p, z, hp, hz, e) = row-split (statesOf b) (symbolsOf b) k l in
     row-exactly b k .1 (rw e (row-sum b p z hz ∙ m .row p z hp hz))
 
 passed-of-file : (b : List ℕ) → ModelFile b → Passed (modelTests b)
-unfolding modelTests recordsOf
+unfolding modelTests rowsTests recordsOf
 passed-of-file b m = (
   not-exactly _ .1 (whole-exactly (length b) .1 (omega (arith, m .records .some), (omega (arith, m .records .whole), omega (arith, m .records .whole, m .records .most)))),
-  passed-append (each (recordsOf b) (recordTests b)) (each (statesOf b * symbolsOf b) (rowTests b)) .1 (
+  passed-append (each (recordsOf b) (recordTests b)) (each (rowsIn (statesOf b) (symbolsOf b)) (rowTests b)) .1 (
     passed-each (recordsOf b) (recordTests b) .1 (λ i l. record-exactly b i .1 (m .records .right i l, ascends-of-file b m i l)),
-    passed-each (statesOf b * symbolsOf b) (rowTests b) .1 (passed-row b m),
+    passed-each (rowsIn (statesOf b) (symbolsOf b)) (rowTests b) .1 (passed-row b m),
   ),
 )
 
@@ -210,3 +215,24 @@ is-model b m =
       rule = λ r h. let (i, l, e) = in-listTo (ruleOf b) (recordsOf b) r h in rw e (rule-right b m i l);
       row = m .row;
     }
+
+-- ---- an accepted model with its sizes
+
+module _ {b : List ℕ} {s g : ℕ} (sized : Sized b s g) where
+  -- Its sizes fit.
+  pub sized-fits : Fits s g
+  sized-fits = rw (sized .states, sized .symbols) (sizes-fit b (sized .file .records .right))
+
+  pub has-record : {i : ℕ} → i < recordsOf b → HasRecord b i
+  has-record l = omega (arith, sized .file .records .whole)
+
+  -- Record i is for a row of the model, and names states and symbols of it.
+  pub record-row : {i : ℕ} → i < recordsOf b → (state b i < s) × (symbol b i < g)
+  record-row {i} l = rw (sized .states, sized .symbols) (state-below b i l, symbol-below b i l)
+
+  pub record-names : {i : ℕ} → i < recordsOf b → (target b i < s) × (top b i < g) × (under b i < g)
+  record-names {i} l = rw (sized .states, sized .symbols) (target-below b i l, top-below b i l, under-below b i l)
+
+  -- The theory's model.
+  pub sized-model : IsModel s g (rulesOf b)
+  sized-model = rw (sized .states, sized .symbols) (is-model b (sized .file))

@@ -1,6 +1,6 @@
 -- The laws of a model file's records, of the lists and greatest values made of them, and of a row's sum over them.
-use Prim.Native.Nat.{ℕ, zero, suc, _+_, _*_, _≤_, _<_, max}
-use native.Mathlib.Nat.{not-suc-le-zero, eq-or-lt-of-le, le-of-suc-le-suc, le-refl, max-le}
+use Prim.Native.Nat.{ℕ, zero, suc, _+_, _-_, _*_, _≤_, _<_, max}
+use native.Mathlib.Nat.{not-suc-le-zero, eq-or-lt-of-le, le-of-suc-le-suc, le-refl, max-le, mul-le-mul}
 use native.Mathlib.Numerals.{add-one}
 use native.Mathlib.Omega.{arith}
 use mathlib.Core.Bool.{Bool, true, false}
@@ -12,12 +12,15 @@ use lib.ListN.{length, getD, length-append, List·getD-append}
 use lib.Seq.{ext-getD, getD-at}
 use borrow.Author.Tests.{eqb-true, eqb-false}
 use Rattle.ppda.specs.Sums.{bit, sum, sumTo, In}
+use Rattle.ppda.specs.Order.{rowsIn, entriesIn}
 use Rattle.ppda.specs.Rules.{Rule, fits, overRow}
 use Rattle.ppda.proofs.Sums.{sum-append}
 use Rattle.ppda.proofs.Lists.{in-append-cases}
-use Rattle.model.specs.Records.{recordsOf, state, symbol, target, top, under, weight, greatestTo, greatestByte, stateNamed, symbolNamed, statesOf, symbolsOf}
+use Rattle.model.specs.Format.{mostStates, mostSymbols, mostRows}
+use Rattle.model.specs.Records.{recordsOf, state, symbol, target, top, under, weight, greatestTo, stateNamed, symbolNamed, statesOf, symbolsOf}
 use Rattle.model.specs.Rules.{ruleOf, listTo, rulesOf}
 use Rattle.model.specs.Accepted.{RecordRight}
+use Rattle.model.specs.Sizes.{Fits, Narrow}
 
 -- ---- h 0, h 1, …, h (n − 1)
 
@@ -73,12 +76,6 @@ unfolding greatestTo
 greatest-most h zero a e = omega arith
 greatest-most h (suc n) a e = max-le (greatest-most h n a (λ i b. e i (omega arith))) (e n (le-refl (suc n)))
 
--- Equal numbers have an equal greatest.
-pub greatest-cong : (h k : ℕ → ℕ) (n : ℕ) → ((i : ℕ) → h i ≡ k i) → greatestTo h n ≡ greatestTo k n
-unfolding greatestTo
-greatest-cong h k zero e = refl
-greatest-cong h k (suc n) e = ap₂ max (greatest-cong h k n e) (e n)
-
 -- Where a loop begins, and one more turn of it.
 pub greatest-none : (h : ℕ → ℕ) → greatestTo h 0 ≡ 0
 unfolding greatestTo
@@ -90,14 +87,14 @@ greatest-step h i = rw add-one
 
 -- ---- states and symbols
 
--- s and g by the greatest byte of all records, as the code finds it.
-pub states-by-byte : (b : List ℕ) → greatestTo (greatestByte b 0 2 2) (recordsOf b) + 1 ≡ statesOf b
+-- s and g are one more than the greatest state and symbol named.
+pub states-named : (b : List ℕ) {k n : ℕ} → k ≡ greatestTo (stateNamed b) n → n ≡ recordsOf b → k + 1 ≡ statesOf b
 unfolding statesOf
-states-by-byte b = omega (arith, greatest-cong (greatestByte b 0 2 2) (stateNamed b) (recordsOf b) (λ i. omega arith))
+states-named b e m = rw (e, m, add-one)
 
-pub symbols-by-byte : (b : List ℕ) → greatestTo (greatestByte b 1 4 5) (recordsOf b) + 1 ≡ symbolsOf b
+pub symbols-named : (b : List ℕ) {k n : ℕ} → k ≡ greatestTo (symbolNamed b) n → n ≡ recordsOf b → k + 1 ≡ symbolsOf b
 unfolding symbolsOf
-symbols-by-byte b = rw add-one
+symbols-named b e m = rw (e, m, add-one)
 
 module _ (b : List ℕ) (i : ℕ) (below : i < recordsOf b) where
   pub state-below : state b i < statesOf b
@@ -120,21 +117,33 @@ module _ (b : List ℕ) (i : ℕ) (below : i < recordsOf b) where
   unfolding symbolsOf
   under-below = omega (arith, greatest-le (symbolNamed b) (recordsOf b) i below)
 
--- At most 8 states and 16 symbols.
-module _ (b : List ℕ) (right : (i : ℕ) → i < recordsOf b → RecordRight b i) where
-  pub states-most : statesOf b ≤ 8
-  unfolding statesOf
-  states-most =
-      omega (arith, greatest-most (stateNamed b) (recordsOf b) 7 (λ i l. max-le (right i l .state-range) (right i l .target-range)))
+-- Right records name states and symbols within the limits. These limits are such that rows and entries keep theirs: this is all that is known of
+-- today's 8 states and 16 symbols.
+sizes-within : (s g : ℕ) → 1 ≤ s → 1 ≤ g → s ≤ mostStates → g ≤ mostSymbols → Fits s g
+sizes-within s g a b c d =
+    let rows : rowsIn s g ≤ mostRows = mul-le-mul c d in
+    record { some-states = a; some-symbols = b; few-states = c; few-symbols = d; few-rows = rows; few-entries = mul-le-mul rows c }
 
-  pub symbols-most : symbolsOf b ≤ 16
-  unfolding symbolsOf
-  symbols-most =
-      omega (
-        arith,
-        greatest-most (symbolNamed b) (recordsOf b) 15
-            (λ i l. max-le (right i l .symbol-range) (max-le (right i l .top-range) (right i l .under-range))),
-      )
+pub sizes-fit : (b : List ℕ) → ((i : ℕ) → i < recordsOf b → RecordRight b i) → Fits (statesOf b) (symbolsOf b)
+unfolding statesOf symbolsOf
+sizes-fit b right =
+    let states = greatest-most (stateNamed b) (recordsOf b) (mostStates - 1)
+        (λ i l. let r = right i l in max-le (omega (arith, r .state-range)) (omega (arith, r .target-range))) in
+    let symbols = greatest-most (symbolNamed b) (recordsOf b) (mostSymbols - 1)
+        (λ i l. let r = right i l in
+        max-le (omega (arith, r .symbol-range)) (max-le (omega (arith, r .top-range)) (omega (arith, r .under-range)))) in
+    sizes-within _ _ (omega arith) (omega arith) (omega (arith, states)) (omega (arith, symbols))
+
+-- Sizes that fit are narrow.
+pub fits-narrow : {s g : ℕ} → Fits s g → Narrow s g
+fits-narrow h = record { states = omega (arith, h .few-states); symbols = omega (arith, h .few-symbols) }
+
+-- Narrow sizes have few rows and entries.
+pub narrow-rows : {s g : ℕ} → Narrow s g → rowsIn s g ≤ 65536 * 65536
+narrow-rows {s} {g} h = mul-le-mul {n₁ = s} {m₁ = g} {n₂ = 65536} {m₂ = 65536} (omega (arith, h .states)) (omega (arith, h .symbols))
+
+pub narrow-entries : {s g : ℕ} → Narrow s g → entriesIn s g ≤ 65536 * 65536 * 65536
+narrow-entries {s} {g} h = mul-le-mul {n₁ = s * g} {m₁ = s} {n₂ = 65536 * 65536} {m₂ = 65536} (narrow-rows h) (omega (arith, h .states))
 
 -- ---- a sum over a row
 

@@ -1,5 +1,5 @@
 -- The verdict step by step, as the code finds it.
-use Prim.Native.Nat.{ℕ, zero, suc, _+_, _*_, _-_, _<_}
+use Prim.Native.Nat.{ℕ, zero, suc, _+_, _-_, _<_}
 use native.Mathlib.Omega.{arith}
 use mathlib.Core.Bool.{true, false}
 use mathlib.Core.List.{List}
@@ -12,9 +12,10 @@ use Rattle.outcome.specs.declared.Outcome.the-variants.{Accepted, Refused}
 use Rattle.outcome.specs.declared.Reason.the-variants.{ModelLength, OutOfRange, UnusedNotZero, WeightOutOfRange, NotAscending, RowSumWrong}
 use Rattle.outcome.specs.Tests.{first, each}
 use Rattle.outcome.proofs.Tests.{first-fails, first-passes, first-after, first-stands}
-use Rattle.model.specs.Records.{recordsOf, statesOf, symbolsOf, key}
+use Rattle.ppda.specs.Units.{weightUnit}
+use Rattle.model.specs.Records.{recordsOf, symbolsOf, key}
 use Rattle.model.specs.Rules.{rowSum}
-use Rattle.model.specs.Verdict.{wholeRecords, rangeAt, unusedAt, weightAt, above, ascends, recordTests, rowTests, modelTests, modelVerdict}
+use Rattle.model.specs.Verdict.{wholeRecords, rangeAt, unusedAt, weightAt, above, ascends, recordTests, rowTests, rowsTests, modelTests, modelVerdict}
 
 -- The first record has none before it.
 pub ascends-first : (b : List ℕ) (i : ℕ) → i ≡ 0 → ascends b i ≡ true
@@ -57,11 +58,11 @@ module _ (b : List ℕ) (i : ℕ) where
 
 -- The outcome of a row by its sum.
 module _ (b : List ℕ) (k : ℕ) where
-  pub row-fails : (rowSum b (symbolsOf b) k ≡ 65536 → ⊥) → first (rowTests b k) ≡ Refused RowSumWrong k (pos 0)
+  pub row-fails : (rowSum b (symbolsOf b) k ≡ weightUnit → ⊥) → first (rowTests b k) ≡ Refused RowSumWrong k (pos 0)
   unfolding rowTests first
   row-fails n = rw (ne-eqb _ _ n)
 
-  pub row-passes : rowSum b (symbolsOf b) k ≡ 65536 → first (rowTests b k) ≡ Accepted
+  pub row-passes : rowSum b (symbolsOf b) k ≡ weightUnit → first (rowTests b k) ≡ Accepted
   unfolding rowTests first
   row-passes e = rw (eq-eqb _ _ e)
 
@@ -83,6 +84,6 @@ module _ (b : List ℕ) where
 
   -- The length and the records pass.
   pub rows-decide : wholeRecords (length b) ≡ true → recordsOutcome b ≡ Accepted
-      → modelVerdict b ≡ first (each (statesOf b * symbolsOf b) (rowTests b))
+      → modelVerdict b ≡ first (rowsTests b)
   unfolding modelVerdict modelTests
   rows-decide e a = first-passes _ _ (rw e) ∙ first-after (each (recordsOf b) (recordTests b)) _ a

@@ -1,6 +1,8 @@
--- A model file (document 01, "Models"), in the order of the document: its records, the rules that they say, its states and symbols, the
--- tests 10 to 15 in their order, and what they come to in plain words.
+-- A model file (document 01, "Models"), in the order of the document: its format and limits, its records, its sizes, the rules that the records
+-- say, the tests 10 to 15 in their order, and what they come to in plain words.
+pub mod Format
 pub mod Records
+pub mod Sizes
 pub mod Rules
 pub mod Verdict
 pub mod Accepted

@@ -1,42 +1,47 @@
--- The records of a model file: 10 bytes each, with no header.
-use Prim.Native.Nat.{ℕ, zero, suc, _+_, _*_, _/_, max}
+-- The records of a model file, one after the other with no header.
+use Prim.Native.Nat.{ℕ, zero, suc, _+_, _*_, _/_, _≤_, max}
 use mathlib.Core.List.{List, [], _∷_}
 use lib.ListN.{length, getD}
 use Rattle.words.specs.Words.{wordAt}
+use Rattle.model.specs.Format.{recordBytes, stateByte, symbolByte, targetByte, pushesByte, topByte, underByte, weightByte}
 
 -- How many whole records the file has.
 unfoldable pub recordsOf : List ℕ → ℕ
-recordsOf b = length b / 10
+recordsOf b = length b / recordBytes
+
+-- Record i is whole in the file.
+abbrev pub HasRecord : List ℕ → ℕ → Type 0
+HasRecord b i = recordBytes * (i + 1) ≤ length b
 
 -- Byte k of record i.
 unfoldable pub field : List ℕ → ℕ → ℕ → ℕ
-field b i k = getD b (10 * i + k) 0
+field b i k = getD b (recordBytes * i + k) 0
 
 -- p, Z, q, L, Y, X of document 01: in this state, with this symbol on top, go to this target and push so many symbols, the new top and
 -- what lies under it.
 abbrev pub state : List ℕ → ℕ → ℕ
-state b i = field b i 0
+state b i = field b i stateByte
 
 abbrev pub symbol : List ℕ → ℕ → ℕ
-symbol b i = field b i 1
+symbol b i = field b i symbolByte
 
 abbrev pub target : List ℕ → ℕ → ℕ
-target b i = field b i 2
+target b i = field b i targetByte
 
 abbrev pub pushes : List ℕ → ℕ → ℕ
-pushes b i = field b i 3
+pushes b i = field b i pushesByte
 
 abbrev pub top : List ℕ → ℕ → ℕ
-top b i = field b i 4
+top b i = field b i topByte
 
 abbrev pub under : List ℕ → ℕ → ℕ
-under b i = field b i 5
+under b i = field b i underByte
 
 -- The weight, four bytes with the low byte first.
 unfoldable pub weight : List ℕ → ℕ → ℕ
-weight b i = wordAt b (10 * i + 6)
+weight b i = wordAt b (recordBytes * i + weightByte)
 
--- The first six bytes of record i, by which records ascend.
+-- What record i says but its weight, by which records ascend.
 abbrev pub key : List ℕ → ℕ → List ℕ
 key b i = state b i ∷ symbol b i ∷ target b i ∷ pushes b i ∷ top b i ∷ under b i ∷ []
 
@@ -44,10 +49,6 @@ key b i = state b i ∷ symbol b i ∷ target b i ∷ pushes b i ∷ top b i ∷
 unfoldable pub greatestTo : (ℕ → ℕ) → ℕ → ℕ
 greatestTo h zero = 0
 greatestTo h (suc n) = max (greatestTo h n) (h n)
-
--- The greatest of bytes j, k and l of record i.
-abbrev pub greatestByte : List ℕ → ℕ → ℕ → ℕ → ℕ → ℕ
-greatestByte b j k l i = max (field b i j) (max (field b i k) (field b i l))
 
 -- The greatest state and the greatest symbol that record i names. An unused Y or X is 0, so it names no greater symbol.
 abbrev pub stateNamed : List ℕ → ℕ → ℕ

@@ -1,8 +1,9 @@
 -- The rules that a model file says, for the theory of crate ppda.
-use Prim.Native.Nat.{ℕ, zero, suc, _+_, _*_}
+use Prim.Native.Nat.{ℕ, zero, suc, _*_}
 use mathlib.Core.List.{List, [], _∷_, _++_}
 use lib.Dec.{eqb}
 use Rattle.ppda.specs.Sums.{bit, sumTo}
+use Rattle.ppda.specs.Order.{rowAt}
 use Rattle.ppda.specs.Rules.{Push, nothing, one, two, Rule, rule}
 use Rattle.model.specs.Records.{recordsOf, state, symbol, target, pushes, top, under, weight}
 
@@ -27,7 +28,7 @@ rulesOf b = listTo (ruleOf b) (recordsOf b)
 
 -- The number p × g + Z of record i's row, where the file has g symbols.
 unfoldable pub rowOf : List ℕ → ℕ → ℕ → ℕ
-rowOf b g i = state b i * g + symbol b i
+rowOf b g i = rowAt g (state b i) (symbol b i)
 
 -- The sum of the weights of row number k.
 unfoldable pub rowSum : List ℕ → ℕ → ℕ → ℕ

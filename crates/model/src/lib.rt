@@ -1,17 +1,21 @@
 // A model file: its records, its sizes, and the verdict 10 to 15 on any bytes.
 
+use format::MOST_BYTES;
+use format::RECORD_BYTES;
 use outcome::Outcome;
 use outcome::Reason;
 use outcome::refused;
 
+pub mod format; // format.rt: the format's numbers and the limits
 pub mod record; // record.rt: one record's numbers and its tests
 mod row_sums; // row_sums.rt: the sums of the rows
-pub mod sizes; // sizes.rt: records, states and symbols
+pub mod sizes; // sizes.rt: records, states and symbols; the order of rows and entries
 
 ghost use mathlib.Core.Path.{_≡_};
 ghost use Prim.Native.Nat.{_≤_, _*_};
 ghost use lib.ListN.{length};
 ghost use Rattle.outcome.specs.Tests.{first, each};
+ghost use Rattle.model.specs.Format.{recordBytes};
 ghost use Rattle.model.specs.W.{wFile};
 ghost use Rattle.model.specs.Verdict.{wholeRecords, recordTests, modelVerdict};
 
@@ -19,12 +23,12 @@ ghost use Rattle.model.specs.Verdict.{wholeRecords, recordTests, modelVe
 fn whole_records(n: usize) -> bool
     ensures { λ r. ⌜ r ≡ wholeRecords n ⌝ }
 {
-    (0 < n) & ((n % 10 == 0) & (n <= 10240))
+    (0 < n) & ((n % RECORD_BYTES == 0) & (n <= MOST_BYTES))
 }
 
 // The tests of each record, in their order.
 fn check_records(model: &[u8], records: usize) -> Outcome
-    requires { ⌜ 10 * records ≤ length (now model) ⌝ }
+    requires { ⌜ recordBytes * records ≤ length (now model) ⌝ }
     ensures { λ r. ⌜ r ≡ first (each records (recordTests (now (model .entry)))) ⌝ }
 {
     let mut i = 0;

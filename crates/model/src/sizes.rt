@@ -1,15 +1,63 @@
-// How large a model is: its records, states and symbols.
+// How large a model is: its records, states and symbols, and the order of its rows and entries.
 
-use super::record::field;
+use super::format::RECORD_BYTES;
+use super::record::state;
+use super::record::symbol;
+use super::record::target;
+use super::record::top;
+use super::record::under;
 ghost use mathlib.Core.Path.{_≡_};
 ghost use Prim.Native.Nat.{_≤_, _<_, max};
-ghost use Rattle.model.specs.Records.{recordsOf, greatestTo, greatestByte, statesOf, symbolsOf};
+ghost use Rattle.ppda.specs.Order.{rowsIn, entriesIn, rowAt, entryAt};
+ghost use Rattle.model.specs.Format.{mostRows, mostEntries};
+ghost use Rattle.model.specs.Records.{HasRecord, recordsOf, stateNamed, symbolNamed, statesOf, symbolsOf};
+ghost use Rattle.model.specs.Sizes.{sizesOf, Fits, Narrow};
+
+// The numbers of states and symbols. Rows (p, Z) and entries (p, Z, q) are numbered in the order of files.
+pub struct Sizes {
+    pub states: usize,
+    pub symbols: usize,
+}
+
+impl Sizes {
+    // The number of rows.
+    pub fn rows(self) -> usize
+        requires { ⌜ Fits (self .states) (self .symbols) ⌝ }
+        ensures { λ r. ⌜ (r ≡ rowsIn (self .states) (self .symbols)) × (r ≤ mostRows) ⌝ }
+    {
+        self.states * self.symbols
+    }
+
+    // The number of entries.
+    pub fn entries(self) -> usize
+        requires { ⌜ Fits (self .states) (self .symbols) ⌝ }
+        ensures { λ r. ⌜ (r ≡ entriesIn (self .states) (self .symbols)) × (r ≤ mostEntries) ⌝ }
+    {
+        self.states * self.symbols * self.states
+    }
+
+    // The number of a row.
+    pub fn row(self, p: usize, z: usize) -> usize
+        requires { ⌜ Narrow (self .states) (self .symbols) × (p < self .states) × (z < self .symbols) ⌝ }
+        ensures { λ r. ⌜ (r ≡ rowAt (self .symbols) p z) × (r < rowsIn (self .states) (self .symbols)) ⌝ }
+    {
+        p * self.symbols + z
+    }
+
+    // The number of an entry.
+    pub fn entry(self, p: usize, z: usize, q: usize) -> usize
+        requires { ⌜ Narrow (self .states) (self .symbols) × (p < self .states) × (z < self .symbols) × (q < self .states) ⌝ }
+        ensures { λ r. ⌜ (r ≡ entryAt (self .states) (self .symbols) p z q) × (r < entriesIn (self .states) (self .symbols)) ⌝ }
+    {
+        (p * self.symbols + z) * self.states + q
+    }
+}
 
 // How many whole records the file has.
 pub fn records(model: &[u8]) -> usize
     ensures { λ r. ⌜ r ≡ recordsOf (now (model .entry)) ⌝ }
 {
-    model.len() / 10
+    model.len() / RECORD_BYTES
 }
 
 fn greater(a: usize, b: usize) -> usize
@@ -18,32 +66,54 @@ fn greater(a: usize, b: usize) -> usize
     if a < b { b } else { a }
 }
 
-// The greatest among bytes j, k and l of all records.
-fn greatest(model: &[u8], j: usize, k: usize, l: usize) -> usize
-    requires { ⌜ (j < 10) × (k < 10) × (l < 10) ⌝ }
-    ensures { λ r. ⌜ (r ≡ greatestTo (greatestByte (now (model .entry)) j k l) (recordsOf (now (model .entry)))) × (r < 256) ⌝ }
+// The greatest state that record i names.
+fn state_named(model: &[u8], i: usize) -> usize
+    requires { ⌜ HasRecord (now model) i ⌝ }
+    ensures { λ r. ⌜ (r ≡ stateNamed (now (model .entry)) i) × (r < 65536) ⌝ }
+{
+    greater(state(model, i), target(model, i))
+}
+
+// The greatest symbol that record i names.
+fn symbol_named(model: &[u8], i: usize) -> usize
+    requires { ⌜ HasRecord (now model) i ⌝ }
+    ensures { λ r. ⌜ (r ≡ symbolNamed (now (model .entry)) i) × (r < 65536) ⌝ }
+{
+    let pushed = greater(top(model, i), under(model, i));
+    greater(symbol(model, i), pushed)
+}
+
+// The sizes of any bytes: one more than the greatest state and the greatest symbol that a record names.
+pub fn sizes_of(model: &[u8]) -> Sizes
+    ensures { λ r. ⌜ (r ≡ sizesOf (now (model .entry))) × (r .states ≤ 65536) × (r .symbols ≤ 65536) ⌝ }
 {
     let n = records(model);
-    let mut most = 0;
+    let mut state = 0;
+    let mut symbol = 0;
     let mut i = 0;
     while i < n {
-        let pair = greater(field(model, i, k), field(model, i, l));
-        most = greater(most, greater(field(model, i, j), pair));
+        state = greater(state, state_named(model, i));
+        symbol = greater(symbol, symbol_named(model, i));
         i += 1;
     }
-    most
+    Sizes {
+        states: state + 1,
+        symbols: symbol + 1,
+    }
 }
 
 // s: one more than the greatest state that a record names.
 pub fn states(model: &[u8]) -> usize
-    ensures { λ r. ⌜ (r ≡ statesOf (now (model .entry))) × (r ≤ 256) ⌝ }
+    ensures { λ r. ⌜ (r ≡ statesOf (now (model .entry))) × (r ≤ 65536) ⌝ }
 {
-    greatest(model, 0, 2, 2) + 1
+    let sizes = sizes_of(model);
+    sizes.states
 }
 
 // g: one more than the greatest symbol that a record names.
 pub fn symbols(model: &[u8]) -> usize
-    ensures { λ r. ⌜ (r ≡ symbolsOf (now (model .entry))) × (r ≤ 256) ⌝ }
+    ensures { λ r. ⌜ (r ≡ symbolsOf (now (model .entry))) × (r ≤ 65536) ⌝ }
 {
-    greatest(model, 1, 4, 5) + 1
+    let sizes = sizes_of(model);
+    sizes.symbols
 }

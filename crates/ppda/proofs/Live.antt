@@ -13,11 +13,11 @@ use Rattle.ppda.specs.Sums.{bit, In}
 use Rattle.ppda.specs.Rules.{Push, nothing, one, two, pushed, Rule, fits, Below, IsModel}
 use Rattle.ppda.specs.Runs.{Config, at, after, lists}
 use Rattle.ppda.specs.Equations.{Vector, through, f}
-use Rattle.ppda.specs.Live.{Live, mark, alive}
+use Rattle.ppda.specs.Live.{Live, mark, isLive, alive}
 use Rattle.ppda.proofs.Sums.{left-of-product, right-of-product, sumTo-positive, term-le-sumTo}
 use Rattle.ppda.proofs.Lists.{in-flatMap, in-map, of-in-flatMap, of-in-map}
 use Rattle.ppda.proofs.Stacks.{below-append}
-use Rattle.ppda.proofs.Marks.{Inside, alive-closed, bit-true, f-positive, alive-is-bit, mark-suc, no-mark}
+use Rattle.ppda.proofs.Marks.{Inside, alive-closed, bit-true, f-positive, is-live, mark-suc, no-mark}
 
 -- ---- runs
 
@@ -153,15 +153,15 @@ module _ (m : List Rule) (s g : ℕ) (model : IsModel s g m) (v : Vector)
 
 -- Live by rounds of f exactly when live by runs.
 pub live-by-rounds : (m : List Rule) (s g : ℕ) → IsModel s g m → (p z q : ℕ) → p < s → z < g → q < s
-    → (alive m s g p z q ≡ 1) ↔ Live m p z q
+    → (isLive (alive m s g p z q) ≡ true) ↔ Live m p z q
 unfolding alive
 live-by-rounds m s g model p z q a b c = (there, back)
   where
-    there : alive m s g p z q ≡ 1 → Live m p z q
-    there e = live-emptied m p z q .0 (mark-emptied m s _ p z q (le-of-eq (sym e)))
+    there : isLive (alive m s g p z q) ≡ true → Live m p z q
+    there e = live-emptied m p z q .0 (mark-emptied m s _ p z q (is-live _ .0 e))
 
-    back : Live m p z q → alive m s g p z q ≡ 1
+    back : Live m p z q → isLive (alive m s g p z q) ≡ true
     back h =
         let r = live-emptied m p z q .1 h in
         let t = chain-of-run m s g model (alive m s g) (alive-closed m s g model) p (z ∷ []) (r .0) q a (b, tt) (r .1) (r .2) in
-        omega (arith, alive-is-bit m s g p z q, subst (λ n. 0 < alive m s g p z n) (t .3) (t .2))
+        is-live _ .1 (subst (λ n. 0 < alive m s g p z n) (t .3) (t .2))

@@ -8,10 +8,11 @@ use mathlib.Core.Bool.{Bool, true, false}
 use mathlib.Core.List.{List}
 use mathlib.Core.Logic.{_⊎_, inl, inr, _↔_}
 use lib.Dec.{eqb}
+use borrow.Author.Tests.{lt-ltb, ltb-true, ltb-false}
 use Rattle.ppda.specs.Sums.{bit, sign, sum, sumTo, In}
 use Rattle.ppda.specs.Rules.{Push, nothing, one, two, pushed, Rule, fits, overRow, Below, IsModel}
 use Rattle.ppda.specs.Equations.{Vector, through, f}
-use Rattle.ppda.specs.Live.{scale, rounds, mark, alive}
+use Rattle.ppda.specs.Live.{scale, rounds, mark, isLive, alive}
 use Rattle.ppda.proofs.Sums.{bit-le, left-of-product, positive-of-sign, right-of-product, sign-le-one, sign-positive, sum-positive, sumTo-le, sumTo-mono, sumTo-positive, sumTo-tight, term-le-sum, term-le-sumTo}
 
 pub bit-true : (b : Bool) → 0 < bit b → b ≡ true
@@ -220,8 +221,11 @@ pub alive-is-bit : (m : List Rule) (s g p z q : ℕ) → alive m s g p z q ≤ 1
 unfolding alive
 alive-is-bit m s g p z q = mark-is-bit m s _ p z q
 
-pub alive-or-dead : (m : List Rule) (s g p z q : ℕ) → (alive m s g p z q ≡ 1) ⊎ (alive m s g p z q ≡ 0)
-alive-or-dead m s g p z q = elim (eq-zero-or-pos (alive m s g p z q)) [
-  | inl a ↦ inr a
-  | inr b ↦ inl (omega (arith, alive-is-bit m s g p z q))
-]
+-- A mark says that its entry is live exactly where it is above 0, and that it is dead where it is 0.
+pub is-live : (a : ℕ) → (isLive a ≡ true) ↔ (0 < a)
+unfolding isLive
+is-live a = (ltb-true 0 a, lt-ltb 0 a)
+
+pub is-dead : (a : ℕ) → isLive a ≡ false → a ≡ 0
+unfolding isLive
+is-dead a e = omega (arith, ltb-false 0 a e)

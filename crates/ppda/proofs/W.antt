@@ -7,7 +7,7 @@ use Rattle.ppda.specs.Rules.{fits, overRow}
 use Rattle.ppda.specs.Runs.{after, lists, weigh, overRuns, overRunsWithin}
 use Rattle.ppda.specs.Chances.{chance, chanceFrom, mean, counted}
 use Rattle.ppda.specs.Equations.{Vector, f, meanSide}
-use Rattle.ppda.specs.Live.{mark, alive}
+use Rattle.ppda.specs.Live.{mark, isLive, alive}
 use Rattle.ppda.specs.Margin.{share, shareAt, margin}
 use Rattle.ppda.proofs.Lists.{inOrder, rowsInOrder}
 use Rattle.ppda.specs.W.{w, wUppers, wLowers, wMeans}
@@ -36,7 +36,7 @@ unfolding inOrder flatMap alive mark sign f overRow sum fits sumTo
 live-marks = refl
 
 pub margin-is : margin w 2 1 wUppers ≡ 45875
-unfolding margin leastTo shareAt share alive mark sign f overRow sum fits sumTo
+unfolding margin leastTo shareAt share isLive alive mark sign f overRow sum fits sumTo
 margin-is = refl
 
 -- The right sides of the mean steps' inequality, in 1/2^44 of a step.

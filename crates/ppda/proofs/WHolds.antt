@@ -1,8 +1,9 @@
 -- W is a model, its bounds are a certificate and (1, 0, 0) is dead: the theorems' hypotheses can be had.
 use Prim.Native.Nat.{ℕ, _*_, _^_, _≤_, _<_}
-use native.Mathlib.Nat.{not-le-of-lt}
+use native.Mathlib.Nat.{not-le-of-lt, not-suc-le-zero}
 use native.Mathlib.Omega.{arith}
 use mathlib.Core.Path.{_≡_, refl}
+use mathlib.Core.Bool.{true}
 use mathlib.Core.List.{[], _∷_, flatMap}
 use lib.Dec.{lit<, lit≤}
 use Rattle.ppda.specs.Sums.{sum, sumTo, sign}
@@ -10,11 +11,12 @@ use Rattle.ppda.specs.Rules.{rule, fits, overRow, IsModel}
 use Rattle.ppda.specs.Runs.{after, lists, weigh, overRuns, overRunsWithin}
 use Rattle.ppda.specs.Chances.{mean, counted}
 use Rattle.ppda.specs.Equations.{Vector, RowVector, rows, f, meanSide}
-use Rattle.ppda.specs.Live.{Live, mark, alive}
+use Rattle.ppda.specs.Live.{Live, mark, isLive, alive}
 use Rattle.ppda.specs.Bounds.{LowerAt, Means, Certificate}
 use Rattle.ppda.specs.W.{w, wUppers, wLowers, wMeans}
 use Rattle.ppda.proofs.Rows.{rules-of-test}
 use Rattle.ppda.proofs.Lists.{at-rows, at-entries}
+use Rattle.ppda.proofs.Marks.{is-live, is-dead}
 use Rattle.ppda.proofs.Live.{live-by-rounds}
 
 pub is-model : IsModel 2 1 w
@@ -24,15 +26,16 @@ is-model =
 
 -- (1, 0, 0) is dead: no run from it ends so.
 pub dead : Live w 1 0 0 → ⊥
-unfolding alive mark sign f overRow sum fits sumTo
-dead h = let e : alive w 2 1 1 0 0 ≡ 1 = live-by-rounds w 2 1 is-model 1 0 0 (lit< tt) (lit< tt) (lit< tt) .1 h in omega arith
+unfolding isLive alive mark sign f overRow sum fits sumTo
+dead h = not-suc-le-zero (is-live (alive w 2 1 1 0 0) .0 (live-by-rounds w 2 1 is-model 1 0 0 (lit< tt) (lit< tt) (lit< tt) .1 h))
 
-live-at : (p z q : ℕ) → alive w 2 1 p z q ≡ 1 → wLowers p z q * 2 ^ 36 ≤ f w 2 (2 ^ 20) wLowers p z q → wLowers p z q ≤ wUppers p z q
+live-at : (p z q : ℕ) → isLive (alive w 2 1 p z q) ≡ true → wLowers p z q * 2 ^ 36 ≤ f w 2 (2 ^ 20) wLowers p z q → wLowers p z q ≤ wUppers p z q
     → wUppers p z q ≤ 2097152 → f w 2 (2 ^ 20) wUppers p z q < wUppers p z q * 2 ^ 36 → LowerAt w 2 1 wUppers wLowers p z q
-live-at p z q live a b c d = record { lower = a; below = b; range = c; strict = λ e. d; dead = λ e. absurd (omega arith) }
+live-at p z q live a b c d =
+    record { lower = a; below = b; range = c; strict = λ e. d; dead = λ e. absurd (not-suc-le-zero (rw (is-dead _ e) at (is-live _ .0 live))) }
 
 pub is-certificate : Certificate w 2 1 wUppers wLowers wMeans
-unfolding alive mark sign f meanSide overRow sum fits sumTo
+unfolding isLive alive mark sign f meanSide overRow sum fits sumTo
 is-certificate = record {
   uppers = at-entries 2 1 (λ p z q. f w 2 (2 ^ 20) wUppers p z q ≤ wUppers p z q * 2 ^ 36)
       ((tt, (tt, ((tt, lit≤ tt), lit≤ tt))), (tt, ((tt, lit≤ tt), lit≤ tt)));
@@ -44,7 +47,7 @@ is-certificate = record {
 }
   where
     dead-at : LowerAt w 2 1 wUppers wLowers 1 0 0
-    dead-at = record { lower = lit≤ tt; below = lit≤ tt; range = lit≤ tt; strict = λ e. absurd (omega arith); dead = λ e. refl }
+    dead-at = record { lower = lit≤ tt; below = lit≤ tt; range = lit≤ tt; strict = λ e. absurd (not-suc-le-zero (is-live 0 .0 e)); dead = λ e. refl }
 
 -- Why mean steps are weighed by the uppers. 342/256 of a step for row (0, 0) is less than the mean counted to 3. Weighed by lowers of 0 it would
 -- pass, and by the uppers no certificate has it.

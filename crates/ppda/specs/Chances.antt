@@ -6,6 +6,7 @@ use mathlib.Core.Option.{Option, none, some}
 use lib.Dec.{eqb}
 use lib.ListN.{length}
 use Rattle.ppda.specs.Sums.{bit}
+use Rattle.ppda.specs.Units.{weightUnit}
 use Rattle.ppda.specs.Rules.{Rule, overRow, pushed}
 use Rattle.ppda.specs.Runs.{Config, at, overRuns, overRunsWithin}
 
@@ -40,7 +41,7 @@ chance m n p z q = chanceFrom m n p (z ∷ []) q
 unfoldable pub chanceByStep : List Rule → ℕ → ℕ → List ℕ → ℕ → ℕ
 chanceByStep m zero p [] q = bit (eqb p q)
 chanceByStep m zero p (z ∷ σ) q = 0
-chanceByStep m (suc n) p [] q = 65536 ^ suc n * bit (eqb p q)
+chanceByStep m (suc n) p [] q = weightUnit ^ suc n * bit (eqb p q)
 chanceByStep m (suc n) p (z ∷ σ) q = overRow m p z (λ r. chanceByStep m n (r .target) (pushed (r .push) ++ σ) q)
 
 -- From state p with the stack σ: the sum of each run's product of chances times what it counts, over the runs that return

@@ -4,6 +4,8 @@ use mathlib.Core.List.{List}
 use lib.Dec.{eqb}
 use lib.ListN.{getD}
 use Rattle.ppda.specs.Sums.{bit, sumTo}
+use Rattle.ppda.specs.Units.{weightUnit}
+use Rattle.ppda.specs.Order.{rowAt, entryAt}
 use Rattle.ppda.specs.Rules.{Rule, Push, nothing, one, two, overRow}
 
 -- A number for each entry (p, z, q): uppers, lowers or chances.
@@ -14,13 +16,12 @@ Vector = ℕ → ℕ → ℕ → ℕ
 abbrev pub RowVector : Type 0
 RowVector = ℕ → ℕ → ℕ
 
--- The vector of a list in file order: entries ascend by (p, z, q).
+-- The vector of a list in the order of files, and the same for rows.
 abbrev pub entries : ℕ → ℕ → List ℕ → Vector
-entries s g l p z q = getD l ((p * g + z) * s + q) 0
+entries s g l p z q = getD l (entryAt s g p z q) 0
 
--- The same for rows, which ascend by (p, z).
 abbrev pub rows : ℕ → List ℕ → RowVector
-rows g l p z = getD l (p * g + z) 0
+rows g l p z = getD l (rowAt g p z) 0
 
 -- From state r with a rule's pushed symbols alone, the chance v of emptying the stack in q. v counts 1/d, and this 1/(d·d).
 abbrev pub through : ℕ → ℕ → Vector → ℕ → Push → ℕ → ℕ
@@ -42,4 +43,4 @@ stepsThrough s d u e r (two y x) = d * e r y + sumTo (λ t. u r y t * e t x) s
 -- The right side of the mean steps' inequality (document 001, Theorems 7 and 8; spelled out in document 01): 1 plus, over the
 -- rules, the chance times the mean steps of what is pushed. It counts 1/(65536·d·h).
 unfoldable pub meanSide : List Rule → ℕ → ℕ → ℕ → Vector → RowVector → RowVector
-meanSide m s d h u e p z = 65536 * (d * h) + overRow m p z (λ r. stepsThrough s d u e (r .target) (r .push))
+meanSide m s d h u e p z = weightUnit * (d * h) + overRow m p z (λ r. stepsThrough s d u e (r .target) (r .push))

@@ -1,9 +1,13 @@
 -- Live entries, from runs and by rounds of f (document 01, "Equations"; "live" and "dead" are its terms).
 use Prim.Native.Nat.{ℕ, zero, suc, _*_}
+use mathlib.Core.Bool.{Bool}
 use mathlib.Core.List.{List, [], _∷_}
 use mathlib.Core.Option.{some}
 use mathlib.Core.Path.{_≡_}
+use lib.Dec.{ltb}
 use Rattle.ppda.specs.Sums.{sign, In}
+use Rattle.ppda.specs.Units.{weightUnit}
+use Rattle.ppda.specs.Order.{entriesIn}
 use Rattle.ppda.specs.Rules.{Rule}
 use Rattle.ppda.specs.Runs.{at, after, lists}
 use Rattle.ppda.specs.Equations.{Vector, f}
@@ -18,7 +22,7 @@ pub record Live (m : List Rule) (p z q : ℕ) : Type 0 where
 -- What k rounds of f from zero everywhere count: 1/(scale k).
 unfoldable pub scale : ℕ → ℕ
 scale zero = 1
-scale (suc k) = 65536 * (scale k * scale k)
+scale (suc k) = weightUnit * (scale k * scale k)
 
 -- k rounds of f from zero everywhere, exact.
 unfoldable pub rounds : List Rule → ℕ → ℕ → Vector
@@ -30,6 +34,10 @@ unfoldable pub mark : List Rule → ℕ → ℕ → Vector
 mark m s zero = λ p z q. 0
 mark m s (suc k) = λ p z q. sign (f m s 1 (mark m s k) p z q)
 
+-- Whether a mark says that its entry is live: it is above 0.
+unfoldable pub isLive : ℕ → Bool
+isLive a = ltb 0 a
+
 -- The live mark: as many rounds as there are entries.
 unfoldable pub alive : List Rule → ℕ → ℕ → Vector
-alive m s g = mark m s (s * g * s)
+alive m s g = mark m s (entriesIn s g)

@@ -5,6 +5,7 @@ use mathlib.Core.List.{List, [], _∷_}
 use mathlib.Core.Path.{_≡_}
 use lib.Dec.{eqb}
 use Rattle.ppda.specs.Sums.{bit, sum, In}
+use Rattle.ppda.specs.Units.{weightUnit}
 
 -- What a rule puts in the place of the symbol that it removes: nothing, y, or y over x.
 pub data Push : Type 0 where
@@ -55,4 +56,4 @@ pub record IsRule (s g : ℕ) (r : Rule) : Type 0 where
 -- besides (the order of its records, its length and its limits on states and symbols) has no part in the theory.
 pub record IsModel (s g : ℕ) (m : List Rule) : Type 0 where
   pub rule : (r : Rule) → In r m → IsRule s g r
-  pub row : (p z : ℕ) → p < s → z < g → overRow m p z (λ r. 1) ≡ 65536
+  pub row : (p z : ℕ) → p < s → z < g → overRow m p z (λ r. 1) ≡ weightUnit

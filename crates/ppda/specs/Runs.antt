@@ -5,6 +5,7 @@ use mathlib.Core.Bool.{cond}
 use mathlib.Core.List.{List, [], _∷_, _++_, map, flatMap}
 use mathlib.Core.Option.{Option, none, some}
 use Rattle.ppda.specs.Sums.{sum, sumTo}
+use Rattle.ppda.specs.Units.{weightUnit}
 use Rattle.ppda.specs.Rules.{Rule, fits, pushed}
 
 -- A configuration: a state and a stack, top first.
@@ -34,4 +35,4 @@ overRuns h m j p σ = sum (λ l. weigh l * h l (after p σ l)) (lists m j)
 
 -- The same over all lists of at most n rules, over 65536 ^ n: a list of j rules counts 65536 ^ (n − j) times.
 unfoldable pub overRunsWithin : (List Rule → Option Config → ℕ) → List Rule → ℕ → ℕ → List ℕ → ℕ
-overRunsWithin h m n p σ = sumTo (λ j. 65536 ^ (n - j) * overRuns h m j p σ) (suc n)
+overRunsWithin h m n p σ = sumTo (λ j. weightUnit ^ (n - j) * overRuns h m j p σ) (suc n)

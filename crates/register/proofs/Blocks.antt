@@ -6,8 +6,9 @@ use mathlib.Core.List.{List}
 use mathlib.Core.Path.{_≡_, refl, _∙_}
 use lib.ListN.{length, take, drop, replicate, length-drop}
 use Rattle.delivery.specs.declared.shape.Shape.{Shape}
-use Rattle.delivery.specs.Shapes.{entriesIn, rowsIn, meansFrom}
-use Rattle.delivery.specs.Numbers.{rowAt, uppersOf, lowersOf, meansOf}
+use Rattle.delivery.specs.Shapes.{meansFrom}
+use Rattle.ppda.specs.Order.{entriesIn, rowsIn, rowAt}
+use Rattle.delivery.specs.Numbers.{uppersOf, lowersOf, meansOf}
 use Rattle.delivery.specs.Walks.{Values}
 use Rattle.delivery.proofs.Walks.{rest-value}
 use Rattle.certificate.proofs.Blocks.{values-same, values-rows}

@@ -18,7 +18,8 @@ use Rattle.model.specs.Verdict.{modelVerdict}
 use Rattle.model.proofs.Accepted.{model-accepted}
 use Rattle.delivery.specs.declared.shape.Shape.{Shape}
 use Rattle.delivery.specs.declared.shape.Shaped.the-variants.{Of}
-use Rattle.delivery.specs.Shapes.{entriesIn, hasLowers, hasMeans, shapeOf}
+use Rattle.delivery.specs.Shapes.{hasLowers, hasMeans, shapeOf}
+use Rattle.ppda.specs.Order.{entriesIn}
 use Rattle.delivery.specs.Numbers.{lowersOf, meansOf}
 use Rattle.delivery.specs.Walks.{Values}
 use Rattle.equations.specs.Held.{Marks}

@@ -14,7 +14,8 @@ use Rattle.delivery.specs.declared.shape.Shape.{Shape}
 use Rattle.delivery.specs.declared.shape.Shape.the-variants.{U}
 use Rattle.delivery.specs.declared.shape.Shaped.{Shaped}
 use Rattle.delivery.specs.declared.shape.Shaped.the-variants.{Of, Unknown}
-use Rattle.delivery.specs.Shapes.{entriesIn, shapeOf}
+use Rattle.delivery.specs.Shapes.{shapeOf}
+use Rattle.ppda.specs.Order.{entriesIn}
 use Rattle.certificate.specs.Verdict.{verdict}
 use Rattle.register.specs.declared.held.HeldDelivery.the-variants as Held
 use Rattle.register.specs.declared.held.Numbers.{Numbers}

@@ -8,7 +8,8 @@ use Rattle.ppda.specs.Equations.{Vector, RowVector}
 use Rattle.model.specs.Records.{statesOf, symbolsOf}
 use Rattle.model.specs.Rules.{listTo}
 use Rattle.delivery.specs.declared.shape.Shape.{Shape}
-use Rattle.delivery.specs.Shapes.{entriesIn, rowsIn, hasLowers, hasMeans}
+use Rattle.delivery.specs.Shapes.{hasLowers, hasMeans}
+use Rattle.ppda.specs.Order.{entriesIn, rowsIn}
 use Rattle.delivery.specs.Numbers.{uppersOf, lowersOf, meansOf}
 use Rattle.equations.specs.Shown.{liveMark}
 use Rattle.certificate.specs.Margin.{marginOf}

@@ -26,7 +26,7 @@ ghost use Rattle.model.specs.Verdict.{modelVerdict};
 ghost use Rattle.delivery.specs.declared.shape.Shaped.the-variants.{Of};
 ghost use Rattle.delivery.specs.Shapes.{hasLowers, hasMeans, shapeOf};
 ghost use Rattle.delivery.specs.Numbers.{lowersOf, meansOf};
-ghost use Rattle.equations.specs.Held.{Sized};
+ghost use Rattle.model.specs.Accepted.{Sized};
 ghost use Rattle.certificate.specs.Verdict.{verdict};
 ghost use Rattle.certificate.specs.Margin.{marginOf};
 ghost use Rattle.register.specs.Held.{filled, modelHeld, numbersHeld, listed, listedRows, ifStanding};

@@ -5,7 +5,7 @@ use mathlib.Core.List.{List, [], _++_}
 use mathlib.Core.Path.{_≡_, ap, _∙_}
 use Rattle.ppda.specs.Equations.{Vector}
 use Rattle.model.specs.Records.{recordsOf}
-use Rattle.equations.specs.Held.{Sized}
+use Rattle.model.specs.Accepted.{Sized}
 use Rattle.register.specs.declared.Register.{Register}
 use Rattle.register.specs.declared.answer.Answer.{Answer}
 use Rattle.register.specs.Questions.{upperIn, lowerIn, marginIn, liveIn}

@@ -15,7 +15,8 @@ use Rattle.delivery.specs.declared.shape.Shaped.the-variants.{Of}
 use Rattle.delivery.specs.Shapes.{shapeOf}
 use Rattle.delivery.specs.Numbers.{uppersOf}
 use Rattle.delivery.proofs.Shapes.{uppers-fit}
-use Rattle.equations.specs.Held.{Sized, Starts, Same}
+use Rattle.equations.specs.Held.{Starts, Same}
+use Rattle.model.specs.Accepted.{Sized}
 use Rattle.equations.proofs.Ranges.{sized-model}
 use Rattle.equations.proofs.Vectors.{f-same}
 use Rattle.certificate.specs.Accepted.{UppersRight}

@@ -7,7 +7,8 @@ use Rattle.ppda.specs.Equations.{f}
 use Rattle.model.specs.Rules.{rulesOf}
 use Rattle.delivery.specs.Numbers.{uppersOf}
 use Rattle.delivery.specs.Walks.{Within}
-use Rattle.equations.specs.Held.{Sized, Starts}
+use Rattle.equations.specs.Held.{Starts}
+use Rattle.model.specs.Accepted.{Sized}
 use Rattle.report.specs.declared.Printout.{Printout}
 
 -- The bytes of a buffer, more than any report has: 145,152 at most, since no number has more than 20 digits.

@@ -1,7 +1,7 @@
 -- `live_marks`: zeros for a refused model, and the marks by rounds for an accepted one.
 use mathlib.Core.Path.{refl, sym, _∙_}
 use borrow.Author.Needs.{needs}
-use Rattle.equations.specs.Held.{Sized}
+use Rattle.model.specs.Accepted.{Sized}
 use Rattle.equations.proofs.Ranges.{some-states, few-states, few-symbols}
 use Rattle.equations.proofs.Shown.{sized-of, none-live, live-of}
 use Rattle.equations.proofs.live_marks.Statement.{statement}

@@ -3,7 +3,7 @@ use mathlib.Core.Path.{refl, sym, subst}
 use lib.Seq.{length-take-le}
 use denote.Ref.{now}
 use borrow.Author.Needs.{needs}
-use Rattle.equations.specs.Held.{Sized}
+use Rattle.model.specs.Accepted.{Sized}
 use Rattle.certificate.proofs.Steps.{few, sized-by-verdict}
 use Rattle.history.specs.Run.{replyOf}
 use Rattle.report.specs.Walks.{Holds}

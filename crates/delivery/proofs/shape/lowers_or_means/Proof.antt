@@ -8,7 +8,8 @@ use borrow.Author.Needs.{needs}
 use Rattle.delivery.specs.declared.shape.Shape.the-variants.{UL, UR}
 use Rattle.delivery.specs.declared.shape.Block.the-variants.{Lowers}
 use Rattle.delivery.specs.Records.{byteOf, kindOf}
-use Rattle.delivery.specs.Shapes.{entriesIn, lowersOrMeans}
+use Rattle.delivery.specs.Shapes.{lowersOrMeans}
+use Rattle.ppda.specs.Order.{entriesIn}
 use Rattle.delivery.proofs.shape.lowers_or_means.Statement.{statement}
 use Rattle.delivery.proofs.shape.lowers_or_means.Tie as tie
 

@@ -1,58 +1,55 @@
 -- `check`: the loop returns at the first row whose sum is not 65,536, after every row before it has passed.
-use Prim.Native.Nat.{_*_, _-_, _≤_}
+use Prim.Native.Nat.{_-_, _≤_}
 use native.Mathlib.Omega.{arith}
-use mathlib.Core.Path.{_≡_, sym, ap₂, _∙_}
+use mathlib.Core.Path.{_≡_, sym, ap, _∙_}
 use lib.ListN.{getD}
 use denote.Ref.{now}
 use borrow.Author.Needs.{needs}
 use Rattle.outcome.proofs.Tests.{each-none, each-more, each-hit, refusal-not-accepted, each-end}
 use Rattle.outcome.specs.Tests.{first, each}
 use Rattle.outcome.specs.declared.Outcome.the-variants.{Accepted}
+use Rattle.ppda.specs.Order.{rowsIn}
+use Rattle.model.specs.declared.sizes.Sizes.{Sizes}
+use Rattle.model.specs.Format.{mostRows}
 use Rattle.model.specs.Rules.{rowSum}
 use Rattle.model.specs.Records.{statesOf, symbolsOf}
-use Rattle.model.specs.Verdict.{rowTests}
+use Rattle.model.specs.Verdict.{rowTests, rowsTests}
 use Rattle.model.proofs.Verdict.{row-fails, row-passes}
-use Rattle.model.proofs.Rows.{rows-of-records}
-use Rattle.model.proofs.Records.{symbols-most}
+use Rattle.model.proofs.Records.{sizes-fit}
 use Rattle.model.proofs.row_sums.check.Statement.{statement}
 use Rattle.model.proofs.row_sums.check.Tie as tie
 
 abbrev Inv-loop : tie.InvT-loop
-Inv-loop model g n sums k₀ k =
-    (k ≤ n) × (n ≤ 128) × (n ≡ statesOf model * symbolsOf model) × (first (each k (rowTests model)) ≡ Accepted)
+Inv-loop model rows sums k₀ k =
+    (k ≤ rows) × (rows ≤ mostRows) × (rows ≡ rowsIn (statesOf model) (symbolsOf model)) × (first (each k (rowTests model)) ≡ Accepted)
 
 abbrev μ-loop : tie.MeasureT-loop
-μ-loop model g n sums k₀ k = n - k
-
--- The code's product is the number of rows, at most 128.
-rows : (c : tie.After-states Inv-loop μ-loop)
-    → let model = now (c .before .before .before .args .model) in
-    c .states .result * c .before .symbols .result ≡ statesOf model * symbolsOf model
-rows c = ap₂ _*_ (c .states .ensures .0) (c .before .symbols .ensures .0)
-
-few : (c : tie.After-states Inv-loop μ-loop) → c .states .result * c .before .symbols .result ≤ 128
-few c = rw (rows c) (rows-of-records _ (c .before .before .before .pre))
+μ-loop model rows sums k₀ k = rows - k
 
 -- The number read is the sum of row k.
 sum-read : (c : tie.In-loop Inv-loop μ-loop)
     → let model = now (c .before .before .before .before .before .before .args .model) in
     getD (c .before .before .sums .result) (c .before .loop .k) 0 ≡ rowSum model (symbolsOf model) (c .before .loop .k)
-sum-read c = c .before .before .sums .ensures (c .before .loop .k) (omega arith) ∙ rw (c .before .before .before .before .symbols .ensures .0)
+sum-read c =
+    c .before .before .sums .ensures (c .before .loop .k) (omega arith)
+    ∙ ap (λ (n : Sizes). rowSum (now (c .before .before .before .before .before .before .args .model)) (n .symbols) (c .before .loop .k)) (c .before .before .before .before .sizes-of .ensures .0)
 
-symbols-requires : tie.Need-symbols-requires Inv-loop μ-loop
-symbols-requires c κs = search needs
+sizes-of-requires : tie.Need-sizes-of-requires Inv-loop μ-loop
+sizes-of-requires c κs = search needs
 
-states-requires : tie.Need-states-requires Inv-loop μ-loop
-states-requires c κs = search needs
-
-mul-n : tie.Need-mul-n Inv-loop μ-loop
-mul-n c = omega (arith, few c)
+rows-requires : tie.Need-rows-requires Inv-loop μ-loop
+rows-requires c κs = rw (c .sizes-of .ensures .0) (sizes-fit _ (c .before .before .pre .right))
 
 sums-requires : tie.Need-sums-requires Inv-loop μ-loop
-sums-requires c κs = (c .before .before .before .pre, omega (arith, symbols-most _ (c .before .before .before .pre .right)))
+sums-requires c κs = (c .before .before .before .pre, c .before .sizes-of .ensures .0)
 
 loop-holds : tie.Need-loop-holds Inv-loop μ-loop
-loop-holds c = (search needs, few (c .before), rows (c .before), each-none _)
+loop-holds c = (
+  search needs,
+  c .before .rows .ensures .1,
+  c .before .rows .ensures .0 ∙ ap (λ (n : Sizes). rowsIn (n .states) (n .symbols)) (c .before .before .sizes-of .ensures .0),
+  each-none _,
+)
 
 mul-if1 : tie.Need-mul-if1 Inv-loop μ-loop
 mul-if1 c = search needs
@@ -64,6 +61,7 @@ refused-requires : tie.Need-refused-requires Inv-loop μ-loop
 refused-requires c κs = search needs
 
 returns : tie.Need-returns Inv-loop μ-loop
+unfolding rowsTests
 returns c =
     let fails = row-fails _ _ (λ e. c .before .if1 .taken (sum-read (c .before .before) ∙ e)) in
     c .refused .ensures
@@ -84,6 +82,7 @@ loop-again c = (
 )
 
 returns-2 : tie.Need-returns-2 Inv-loop μ-loop
+unfolding rowsTests
 returns-2 c = sym (each-end _ _ _ (c .before .loop .inv .3) (omega arith))
 
 pub check-spec : {M : Type 1} → statement M
@@ -92,9 +91,8 @@ check-spec =
     (tie.spec
     Inv-loop
     μ-loop
-    symbols-requires
-    states-requires
-    mul-n
+    sizes-of-requires
+    rows-requires
     sums-requires
     loop-holds
     mul-if1

@@ -1,26 +1,20 @@
 -- `sums`: after i turns each entry is its row's sum over the first i records, at most 65,536 a record, so nothing wraps.
-use Prim.Native.Nat.{_-_, _≤_}
+use Prim.Native.Nat.{_-_, _≤_, _<_}
 use native.Mathlib.Omega.{arith}
 use mathlib.Core.Path.{_≡_}
-use denote.Ref.{now}
 use borrow.Author.Needs.{needs}
 use Rattle.model.specs.Rules.{rowOf}
-use Rattle.model.specs.Accepted.{RecordRight}
+use Rattle.model.specs.Format.{mostRows}
 use Rattle.model.specs.Records.{recordsOf}
-use Rattle.model.proofs.Rows.{RowSums, row-sums-none, row-sums-step, row-sums-most, row-sums-end}
+use Rattle.model.proofs.Rows.{record-in-row, few-rows-of, RowSums, row-sums-none, row-sums-step, row-sums-most, row-sums-end}
 use Rattle.model.proofs.row_sums.sums.Statement.{statement}
 use Rattle.model.proofs.row_sums.sums.Tie as tie
 
 abbrev Inv-loop : tie.InvT-loop
-Inv-loop model g n sums₀ i₀ sums i = (i ≤ n) × (n ≡ recordsOf model) × RowSums model g sums i
+Inv-loop model n end sums₀ i₀ sums i = (i ≤ end) × (end ≡ recordsOf model) × RowSums model (n .symbols) sums i
 
 abbrev μ-loop : tie.MeasureT-loop
-μ-loop model g n sums₀ i₀ sums i = n - i
-
--- Record i is right.
-record-right : (c : tie.In-loop Inv-loop μ-loop)
-    → RecordRight (now (c .before .before .before .before .args .model)) (c .before .loop .i)
-record-right c = c .before .before .before .before .pre .0 .right (c .before .loop .i) (omega arith)
+μ-loop model n end sums₀ i₀ sums i = end - i
 
 records-requires : tie.Need-records-requires Inv-loop μ-loop
 records-requires c κs = search needs
@@ -28,37 +22,44 @@ records-requires c κs = search needs
 loop-holds : tie.Need-loop-holds Inv-loop μ-loop
 loop-holds c = (search needs, c .records .ensures, row-sums-none _ _)
 
-field-requires : tie.Need-field-requires Inv-loop μ-loop
-field-requires c κs = search needs
+state-requires : tie.Need-state-requires Inv-loop μ-loop
+state-requires c κs = search needs
 
-field-requires-2 : tie.Need-field-requires-2 Inv-loop μ-loop
-field-requires-2 c κs = search needs
+symbol-requires : tie.Need-symbol-requires Inv-loop μ-loop
+symbol-requires c κs = search needs
 
-row-number-requires : tie.Need-row-number-requires Inv-loop μ-loop
-row-number-requires c κs =
-    let right = record-right (c .before .before) in
-    (omega (arith, right .state-range), c .before .before .before .before .before .before .pre .1, omega (arith, right .symbol-range))
+row-requires : tie.Need-row-requires Inv-loop μ-loop
+row-requires c κs =
+    let pre = c .before .before .before .before .before .before .pre in
+    let row = record-in-row _ (pre .0) (pre .1) (c .before .before .before .loop .i) (omega arith) in
+    (row .0, rw (c .before .state .ensures .0) (row .1), rw (c .symbol .ensures .0) (row .2))
+
+-- The row's number is one of the list's.
+listed : (c : tie.After-row Inv-loop μ-loop) → c .row .result < mostRows
+listed c =
+    let pre = c .before .before .before .before .before .before .before .pre in
+    omega (arith, c .row .ensures .1, few-rows-of _ (pre .0) (pre .1))
 
 mul-sums : tie.Need-mul-sums Inv-loop μ-loop
-mul-sums c = search needs
+mul-sums c = omega (arith, listed c)
 
 array-read-sums : tie.Need-array-read-sums Inv-loop μ-loop
-array-read-sums c = search needs
+array-read-sums c = omega (arith, listed c)
 
 weight-requires : tie.Need-weight-requires Inv-loop μ-loop
 weight-requires c κs = search needs
 
 add-sums : tie.Need-add-sums Inv-loop μ-loop
 add-sums c =
-    let row = c .before .row-number in
+    let row = c .before .row in
     let turn = c .before .before .before .before .before in
-    omega (arith, row-sums-most (turn .loop .inv .2) (turn .before .before .before .pre .0) (omega arith) (row .result) (row .ensures .1))
+    omega (arith, row-sums-most (turn .loop .inv .2) (turn .before .before .before .pre .0) (omega arith) (row .result) (listed (c .before)))
 
 mul-sums-2 : tie.Need-mul-sums-2 Inv-loop μ-loop
-mul-sums-2 c = search needs
+mul-sums-2 c = omega (arith, listed (c .before))
 
 array-write-sums : tie.Need-array-write-sums Inv-loop μ-loop
-array-write-sums c = search needs
+array-write-sums c = omega (arith, listed (c .before))
 
 add-i : tie.Need-add-i Inv-loop μ-loop
 add-i c = search needs
@@ -69,10 +70,10 @@ loop-less c = search needs
 loop-again : tie.Need-loop-again Inv-loop μ-loop
 unfolding rowOf
 loop-again c =
-    let row = c .before .row-number in (
+    let row = c .before .row in (
       omega arith,
       search needs,
-      row-sums-step (c .before .before .before .before .before .loop .inv .2) (row .result) (c .weight .result) (row .ensures .1)
+      row-sums-step (c .before .before .before .before .before .loop .inv .2) (row .result) (c .weight .result) (listed (c .before))
           (cc) (c .weight .ensures .0),
     )
 
@@ -87,9 +88,9 @@ sums-spec =
     μ-loop
     records-requires
     loop-holds
-    field-requires
-    field-requires-2
-    row-number-requires
+    state-requires
+    symbol-requires
+    row-requires
     mul-sums
     array-read-sums
     weight-requires

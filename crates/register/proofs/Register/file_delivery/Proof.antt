@@ -10,7 +10,7 @@ use borrow.Author.Tests.{not-true, not-false}
 use borrow.Author.Needs.{needs}
 use Rattle.outcome.specs.declared.Outcome.the-variants.{Accepted}
 use Rattle.outcome.proofs.Tests.{not-refused}
-use Rattle.equations.specs.Held.{Sized}
+use Rattle.model.specs.Accepted.{Sized}
 use Rattle.certificate.specs.Verdict.{verdict}
 use Rattle.certificate.proofs.Steps.{few, some-and-few, sized-by-verdict}
 use Rattle.register.specs.Held.{holdsModel}

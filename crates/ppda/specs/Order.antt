@@ -1,0 +1,16 @@
+-- The order of files: rows ascend by (p, z), and entries by (p, z, q) (document 01, "Deliveries").
+use Prim.Native.Nat.{ℕ, _+_, _*_}
+
+-- How many rows (p, z) a model with s states and g symbols has, and V, how many entries (p, z, q).
+abbrev pub rowsIn : ℕ → ℕ → ℕ
+rowsIn s g = s * g
+
+abbrev pub entriesIn : ℕ → ℕ → ℕ
+entriesIn s g = rowsIn s g * s
+
+-- The number of the row (p, z) among them, and of the entry (p, z, q).
+abbrev pub rowAt : ℕ → ℕ → ℕ → ℕ
+rowAt g p z = p * g + z
+
+abbrev pub entryAt : ℕ → ℕ → ℕ → ℕ → ℕ → ℕ
+entryAt s g p z q = rowAt g p z * s + q
