@@ -33,7 +33,7 @@ use Rattle.delivery.specs.declared.shape.Block.the-variants.{Uppers, Lowers, Me
 use Rattle.delivery.specs.declared.shape.Shape.{Shape}
 use Rattle.delivery.specs.declared.shape.Shaped.{Shaped}
 use Rattle.delivery.specs.declared.shape.Shaped.the-variants.{Of, Unknown}
-use Rattle.delivery.specs.Records.{byteOf, valueOf, kindOf, leastOf, mostOf}
+use Rattle.delivery.specs.Records.{byteOf, valueAt, kindOf, leastOf, mostOf}
 use Rattle.delivery.specs.Shapes.{hasLowers, hasMeans, meansFrom, shapeOf}
 use Rattle.ppda.specs.Order.{entriesIn, entryAt, rowAt}
 use Rattle.delivery.specs.Numbers.{uppersOf, lowersOf, meansOf}
@@ -91,15 +91,15 @@ says-one {t = t} f = record { exactly = Iff·trans (passed-one t) f }
 -- ---- each test
 
 due-exactly : (d : List ℕ) (i : ℕ) (k : Block) (p z q : ℕ) → (isDue d i k p z q ≡ true)
-    ↔ ((byteOf d i 0 ≡ kindOf k) × ((byteOf d i 1 ≡ p) × ((byteOf d i 2 ≡ z) × (byteOf d i 3 ≡ q))))
+    ↔ ((kindAt d i ≡ kindOf k) × ((stateAt d i ≡ p) × ((symbolAt d i ≡ z) × (exitAt d i ≡ q))))
 unfolding isDue
 due-exactly d i k p z q =
-    both _ _ (eq-exactly (byteOf d i 0) (kindOf k))
-    (both _ _ (eq-exactly (byteOf d i 1) p) (both _ _ (eq-exactly (byteOf d i 2) z) (eq-exactly (byteOf d i 3) q)))
+    both _ _ (eq-exactly (kindAt d i) (kindOf k))
+    (both _ _ (eq-exactly (stateAt d i) p) (both _ _ (eq-exactly (symbolAt d i) z) (eq-exactly (exitAt d i) q)))
 
-range-exactly : (d : List ℕ) (i : ℕ) (k : Block) → (inRange d i k ≡ true) ↔ ((leastOf k ≤ valueOf d i) × (valueOf d i ≤ mostOf k))
+range-exactly : (d : List ℕ) (i : ℕ) (k : Block) → (inRange d i k ≡ true) ↔ ((leastOf k ≤ valueAt d i) × (valueAt d i ≤ mostOf k))
 unfolding inRange
-range-exactly d i k = both _ _ (le-exactly (leastOf k) (valueOf d i)) (le-exactly (valueOf d i) (mostOf k))
+range-exactly d i k = both _ _ (le-exactly (leastOf k) (valueAt d i)) (le-exactly (valueAt d i) (mostOf k))
 
 says-due : (d : List ℕ) (i : ℕ) (k : Block) (p z q : ℕ) → Says (recordTests d i k p z q) (RecordDue d i k p z q)
 unfolding recordTests

@@ -16,7 +16,7 @@ use Rattle.outcome.proofs.Tests.{each-cong}
 use Rattle.ppda.specs.Rules.{Rule, IsModel}
 use Rattle.ppda.specs.Equations.{Vector, RowVector, entries, rows, f}
 use Rattle.model.specs.Rules.{rulesOf}
-use Rattle.delivery.specs.Records.{valueOf}
+use Rattle.delivery.specs.Records.{valueAt}
 use Rattle.ppda.specs.Order.{entriesIn, entryAt, rowAt}
 use Rattle.delivery.specs.Numbers.{uppersOf, rowsOfBlock}
 use Rattle.delivery.specs.Layout.{eachEntry, eachRow}
@@ -119,8 +119,8 @@ module _ (b : List ℕ) (s g : ℕ) where
 -- ---- a part of a file that ends with its block
 
 -- The first n records have the file's values.
-part-value : (d : List ℕ) (n e : ℕ) → e < n → valueOf (take (8 * n) d) e ≡ valueOf d e
-unfolding valueOf wordAt
+part-value : (d : List ℕ) (n e : ℕ) → e < n → valueAt (take (8 * n) d) e ≡ valueAt d e
+unfolding valueAt wordAt
 part-value d n e h = rw (byte at (omega arith), byte (at + 1) (omega arith), byte (at + 2) (omega arith), byte (at + 3) (omega arith))
   where
     at : ℕ
@@ -134,8 +134,8 @@ unfolding uppersOf
 part-same s g d {n} e p z q hp hz hq = part-value d n (entryAt s g p z q) (rw e (entry-below s g p z q hp hz hq))
 
 -- Past the last record every value is 0.
-past-end : (d : List ℕ) (n e : ℕ) → length d ≡ 8 * n → n ≤ e → valueOf d e ≡ 0
-unfolding valueOf wordAt
+past-end : (d : List ℕ) (n e : ℕ) → length d ≡ 8 * n → n ≤ e → valueAt d e ≡ 0
+unfolding valueAt wordAt
 past-end d n e ends h = rw (byte at (omega arith), byte (at + 1) (omega arith), byte (at + 2) (omega arith), byte (at + 3) (omega arith))
   where
     at : ℕ
@@ -144,14 +144,14 @@ past-end d n e ends h = rw (byte at (omega arith), byte (at + 1) (omega arith), 
     byte : (i : ℕ) → length d ≤ i → getD d i 0 ≡ 0
     byte i l = List·getD-eq-default d 0 l
 
-pub ends-within : (d : List ℕ) (n a : ℕ) → length d ≡ 8 * n → ((e : ℕ) → e < n → valueOf d e ≤ a) → Within d n a
+pub ends-within : (d : List ℕ) (n a : ℕ) → length d ≡ 8 * n → ((e : ℕ) → e < n → valueAt d e ≤ a) → Within d n a
 ends-within d n a ends most = record { whole = omega arith; most = λ e. go e (ltb e n) refl }
   where
-    go : (e : ℕ) (t : Bool) → ltb e n ≡ t → valueOf d e ≤ a
+    go : (e : ℕ) (t : Bool) → ltb e n ≡ t → valueAt d e ≤ a
     go e true q = most e (ltb-true e n q)
     go e false q = omega (arith, past-end d n e ends (ltb-false e n q))
 
-pub part-within : (d : List ℕ) (n a : ℕ) → 8 * n ≤ length d → ((e : ℕ) → e < n → valueOf d e ≤ a) → Within (take (8 * n) d) n a
+pub part-within : (d : List ℕ) (n a : ℕ) → 8 * n ≤ length d → ((e : ℕ) → e < n → valueAt d e ≤ a) → Within (take (8 * n) d) n a
 part-within d n a whole most =
     ends-within (take (8 * n) d) n a (length-take-le (8 * n) d whole) (λ e h. rw (part-value d n e h) (most e h))
 

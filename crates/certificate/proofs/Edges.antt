@@ -16,7 +16,7 @@ use Rattle.model.specs.Records.{recordsOf, field, weight, greatestTo, statesOf,
 use Rattle.model.specs.Rules.{ruleOf, listTo, rulesOf, rowOf, rowSum}
 use Rattle.model.specs.Verdict.{wholeRecords, rangeAt, unusedAt, weightAt, ascends, recordTests, rowTests, modelTests, modelVerdict}
 use Rattle.model.specs.W.{wFile}
-use Rattle.delivery.specs.Records.{byteOf, valueOf}
+use Rattle.delivery.specs.Records.{byteOf, valueAt}
 use Rattle.delivery.specs.Shapes.{meansFrom, recordsIn, longAs, lowersOrMeans, shapeOf}
 use Rattle.delivery.specs.Numbers.{uppersOf, lowersOf, meansOf}
 use Rattle.delivery.specs.Layout as layout
@@ -36,7 +36,7 @@ dead b p z q a hp hz hq = dead-exactly (is-model b (model-accepted b .0 a)) hp h
 
 -- The whole table, by computation.
 pub edges-hold : AllHold edges
-unfolding first each wordAt sign sum sumTo leastTo fits overRow f meanSide mark alive share shareAt margin recordsOf field weight greatestTo statesOf symbolsOf ruleOf listTo rulesOf rowOf rowSum wholeRecords rangeAt unusedAt weightAt ascends recordTests rowTests modelTests modelVerdict byteOf valueOf meansFrom recordsIn longAs lowersOrMeans shapeOf uppersOf lowersOf meansOf eachEntry eachRow isDue inRange layout.recordTests deadTest upperTest belowTest lowerTest meanTest upperRecords lowerRecords meanRecords deadTests upperTests belowTests lowerTests meanTests layoutTests numberTests shapedTests deliveryTests verdict.verdict marginOf shownMargin
+unfolding first each wordAt sign sum sumTo leastTo fits overRow f meanSide mark alive share shareAt margin recordsOf field weight greatestTo statesOf symbolsOf ruleOf listTo rulesOf rowOf rowSum wholeRecords rangeAt unusedAt weightAt ascends recordTests rowTests modelTests modelVerdict byteOf valueAt meansFrom recordsIn longAs lowersOrMeans shapeOf uppersOf lowersOf meansOf eachEntry eachRow isDue inRange layout.recordTests deadTest upperTest belowTest lowerTest meanTest upperRecords lowerRecords meanRecords deadTests upperTests belowTests lowerTests meanTests layoutTests numberTests shapedTests deliveryTests verdict.verdict marginOf shownMargin
 edges-hold = (
   refl,
   (
@@ -77,27 +77,27 @@ edges-hold = (
 
 -- Bad input gets the answer that is due.
 pub bad-inputs-answered : map answered badInputs ≡ map dueTo badInputs
-unfolding first each wordAt sign sum sumTo leastTo fits overRow f meanSide mark alive share shareAt margin recordsOf field weight greatestTo statesOf symbolsOf ruleOf listTo rulesOf rowOf rowSum wholeRecords rangeAt unusedAt weightAt ascends recordTests rowTests modelTests modelVerdict byteOf valueOf meansFrom recordsIn longAs lowersOrMeans shapeOf uppersOf lowersOf meansOf eachEntry eachRow isDue inRange layout.recordTests deadTest upperTest belowTest lowerTest meanTest upperRecords lowerRecords meanRecords deadTests upperTests belowTests lowerTests meanTests layoutTests numberTests shapedTests deliveryTests verdict.verdict marginOf shownMargin
+unfolding first each wordAt sign sum sumTo leastTo fits overRow f meanSide mark alive share shareAt margin recordsOf field weight greatestTo statesOf symbolsOf ruleOf listTo rulesOf rowOf rowSum wholeRecords rangeAt unusedAt weightAt ascends recordTests rowTests modelTests modelVerdict byteOf valueAt meansFrom recordsIn longAs lowersOrMeans shapeOf uppersOf lowersOf meansOf eachEntry eachRow isDue inRange layout.recordTests deadTest upperTest belowTest lowerTest meanTest upperRecords lowerRecords meanRecords deadTests upperTests belowTests lowerTests meanTests layoutTests numberTests shapedTests deliveryTests verdict.verdict marginOf shownMargin
 bad-inputs-answered = refl
 
 -- So do files that fail twice.
 pub fail-twice-answered : map answered failTwice ≡ map dueTo failTwice
-unfolding first each wordAt sign sum sumTo leastTo fits overRow f meanSide mark alive share shareAt margin recordsOf field weight greatestTo statesOf symbolsOf ruleOf listTo rulesOf rowOf rowSum wholeRecords rangeAt unusedAt weightAt ascends recordTests rowTests modelTests modelVerdict byteOf valueOf meansFrom recordsIn longAs lowersOrMeans shapeOf uppersOf lowersOf meansOf eachEntry eachRow isDue inRange layout.recordTests deadTest upperTest belowTest lowerTest meanTest upperRecords lowerRecords meanRecords deadTests upperTests belowTests lowerTests meanTests layoutTests numberTests shapedTests deliveryTests verdict.verdict marginOf shownMargin
+unfolding first each wordAt sign sum sumTo leastTo fits overRow f meanSide mark alive share shareAt margin recordsOf field weight greatestTo statesOf symbolsOf ruleOf listTo rulesOf rowOf rowSum wholeRecords rangeAt unusedAt weightAt ascends recordTests rowTests modelTests modelVerdict byteOf valueAt meansFrom recordsIn longAs lowersOrMeans shapeOf uppersOf lowersOf meansOf eachEntry eachRow isDue inRange layout.recordTests deadTest upperTest belowTest lowerTest meanTest upperRecords lowerRecords meanRecords deadTests upperTests belowTests lowerTests meanTests layoutTests numberTests shapedTests deliveryTests verdict.verdict marginOf shownMargin
 fail-twice-answered = refl
 
 -- So do the ends of ranges and later places.
 pub places-and-ends-answered : map answered placesAndEnds ≡ map dueTo placesAndEnds
-unfolding first each wordAt sign sum sumTo leastTo fits overRow f meanSide mark alive share shareAt margin recordsOf field weight greatestTo statesOf symbolsOf ruleOf listTo rulesOf rowOf rowSum wholeRecords rangeAt unusedAt weightAt ascends recordTests rowTests modelTests modelVerdict byteOf valueOf meansFrom recordsIn longAs lowersOrMeans shapeOf uppersOf lowersOf meansOf eachEntry eachRow isDue inRange layout.recordTests deadTest upperTest belowTest lowerTest meanTest upperRecords lowerRecords meanRecords deadTests upperTests belowTests lowerTests meanTests layoutTests numberTests shapedTests deliveryTests verdict.verdict marginOf shownMargin
+unfolding first each wordAt sign sum sumTo leastTo fits overRow f meanSide mark alive share shareAt margin recordsOf field weight greatestTo statesOf symbolsOf ruleOf listTo rulesOf rowOf rowSum wholeRecords rangeAt unusedAt weightAt ascends recordTests rowTests modelTests modelVerdict byteOf valueAt meansFrom recordsIn longAs lowersOrMeans shapeOf uppersOf lowersOf meansOf eachEntry eachRow isDue inRange layout.recordTests deadTest upperTest belowTest lowerTest meanTest upperRecords lowerRecords meanRecords deadTests upperTests belowTests lowerTests meanTests layoutTests numberTests shapedTests deliveryTests verdict.verdict marginOf shownMargin
 places-and-ends-answered = refl
 
 -- So does the greatest record.
 pub greatest-answered : map answered greatest ≡ map dueTo greatest
-unfolding first each wordAt sign sum sumTo leastTo fits overRow f meanSide mark alive share shareAt margin recordsOf field weight greatestTo statesOf symbolsOf ruleOf listTo rulesOf rowOf rowSum wholeRecords rangeAt unusedAt weightAt ascends recordTests rowTests modelTests modelVerdict byteOf valueOf meansFrom recordsIn longAs lowersOrMeans shapeOf uppersOf lowersOf meansOf eachEntry eachRow isDue inRange layout.recordTests deadTest upperTest belowTest lowerTest meanTest upperRecords lowerRecords meanRecords deadTests upperTests belowTests lowerTests meanTests layoutTests numberTests shapedTests deliveryTests verdict.verdict marginOf shownMargin
+unfolding first each wordAt sign sum sumTo leastTo fits overRow f meanSide mark alive share shareAt margin recordsOf field weight greatestTo statesOf symbolsOf ruleOf listTo rulesOf rowOf rowSum wholeRecords rangeAt unusedAt weightAt ascends recordTests rowTests modelTests modelVerdict byteOf valueAt meansFrom recordsIn longAs lowersOrMeans shapeOf uppersOf lowersOf meansOf eachEntry eachRow isDue inRange layout.recordTests deadTest upperTest belowTest lowerTest meanTest upperRecords lowerRecords meanRecords deadTests upperTests belowTests lowerTests meanTests layoutTests numberTests shapedTests deliveryTests verdict.verdict marginOf shownMargin
 greatest-answered = refl
 
 -- So does the last upper of two states and two symbols.
 pub last-upper-answered : map answered lastUpper ≡ map dueTo lastUpper
-unfolding first each wordAt sign sum sumTo leastTo fits overRow f meanSide mark alive share shareAt margin recordsOf field weight greatestTo statesOf symbolsOf ruleOf listTo rulesOf rowOf rowSum wholeRecords rangeAt unusedAt weightAt ascends recordTests rowTests modelTests modelVerdict byteOf valueOf meansFrom recordsIn longAs lowersOrMeans shapeOf uppersOf lowersOf meansOf eachEntry eachRow isDue inRange layout.recordTests deadTest upperTest belowTest lowerTest meanTest upperRecords lowerRecords meanRecords deadTests upperTests belowTests lowerTests meanTests layoutTests numberTests shapedTests deliveryTests verdict.verdict marginOf shownMargin
+unfolding first each wordAt sign sum sumTo leastTo fits overRow f meanSide mark alive share shareAt margin recordsOf field weight greatestTo statesOf symbolsOf ruleOf listTo rulesOf rowOf rowSum wholeRecords rangeAt unusedAt weightAt ascends recordTests rowTests modelTests modelVerdict byteOf valueAt meansFrom recordsIn longAs lowersOrMeans shapeOf uppersOf lowersOf meansOf eachEntry eachRow isDue inRange layout.recordTests deadTest upperTest belowTest lowerTest meanTest upperRecords lowerRecords meanRecords deadTests upperTests belowTests lowerTests meanTests layoutTests numberTests shapedTests deliveryTests verdict.verdict marginOf shownMargin
 last-upper-answered = refl
 
 -- The records of two rules, with different symbols pushed.
@@ -111,7 +111,7 @@ unfolding rulesOf listTo ruleOf recordsOf field weight wordAt
 w-said = refl
 
 -- The delivery of the table has document 01's numbers.
-pub w-numbers : listTo (valueOf (wDelivery 524288 512)) 10
+pub w-numbers : listTo (valueAt (wDelivery 524288 512)) 10
     ≡ 655360 ∷ 524288 ∷ 0 ∷ 1179648 ∷ 524288 ∷ 393216 ∷ 0 ∷ 1048576 ∷ 512 ∷ 256 ∷ []
-unfolding listTo valueOf wordAt
+unfolding listTo valueAt wordAt
 w-numbers = refl

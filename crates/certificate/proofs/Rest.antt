@@ -16,7 +16,7 @@ use Rattle.model.specs.Rules.{rulesOf}
 use Rattle.ppda.proofs.Places.{row-split}
 use Rattle.delivery.specs.declared.shape.Shape.{Shape}
 use Rattle.delivery.specs.declared.shape.Shaped.the-variants.{Of}
-use Rattle.delivery.specs.Records.{valueOf}
+use Rattle.delivery.specs.Records.{valueAt}
 use Rattle.delivery.specs.Shapes.{hasLowers, hasMeans, meansFrom, recordsIn, shapeOf}
 use Rattle.ppda.specs.Order.{entriesIn, rowsIn, entryAt, rowAt}
 use Rattle.delivery.specs.Numbers.{uppersOf, lowersOf, meansOf, rowsOfBlock}
@@ -56,7 +56,7 @@ pub rest-means : (s g : ℕ) (h : Shape) (d : List ℕ)
     → SameRows s g (rowsOfBlock g (meansBlock s g h (drop (8 * entriesIn s g) d))) (meansOf s g h d)
 unfolding meansOf
 rest-means s g h d p z hp hz =
-    ap (λ l. valueOf l (rowAt g p z)) (means-block s g h d) ∙ rest-value d (meansFrom s g h) (rowAt g p z)
+    ap (λ l. valueAt l (rowAt g p z)) (means-block s g h d) ∙ rest-value d (meansFrom s g h) (rowAt g p z)
 
 -- ---- a right layout has its numbers in range
 
@@ -73,7 +73,7 @@ at-row-numbers {s} {g} P at e h = let (p, z, hp, hz, here) = row-split s g e h i
 module _ (s g : ℕ) (d : List ℕ) {h : Shape} (shape : shapeOf s g d ≡ Of h) where
   pub uppers-within : AtEntries s g (λ p z q. uppersOf s g d p z q ≤ 2097152) → Within (take (8 * entriesIn s g) d) (entriesIn s g) 2097152
   unfolding uppersOf
-  uppers-within most = part-within d (entriesIn s g) 2097152 (uppers-fit s g d h shape) (at-numbers (λ e. valueOf d e ≤ 2097152) most)
+  uppers-within most = part-within d (entriesIn s g) 2097152 (uppers-fit s g d h shape) (at-numbers (λ e. valueAt d e ≤ 2097152) most)
 
   -- The file ends with its mean steps.
   means-end : hasMeans h ≡ true → length (drop (8 * meansFrom s g h) d) ≡ 8 * rowsIn s g
@@ -91,14 +91,14 @@ module _ (s g : ℕ) (d : List ℕ) {h : Shape} (shape : shapeOf s g d ≡ Of h)
         part-within (drop (8 * entriesIn s g) d) (entriesIn s g) 2097152
         (rw (length-drop (8 * entriesIn s g) d) (omega (arith, lowers-fit s g d h shape has)))
         (λ e l. rw (rest-value d (entriesIn s g) e)
-        (at-numbers (λ i. valueOf d (entriesIn s g + i) ≤ 2097152)
+        (at-numbers (λ i. valueAt d (entriesIn s g + i) ≤ 2097152)
         (λ p z q hp hz hq. layout-right s g h d layout .1 .0 has p z q hp hz hq .most) e l))
 
     means-read : hasMeans h ≡ true → Within (meansBlock s g h (drop (8 * entriesIn s g) d)) (rowsIn s g) 4194304
     means-read has =
         rw (means-block s g h d) (ends-within (drop (8 * meansFrom s g h) d) (rowsIn s g) 4194304 (means-end has)
         (λ e l. rw (rest-value d (meansFrom s g h) e)
-        (at-row-numbers (λ i. valueOf d (meansFrom s g h + i) ≤ 4194304)
+        (at-row-numbers (λ i. valueAt d (meansFrom s g h + i) ≤ 4194304)
         (λ p z hp hz. layout-right s g h d layout .1 .1 has p z hp hz .most) e l)))
 
     pub rest-read : RestRead s g h (drop (8 * entriesIn s g) d)
@@ -115,7 +115,7 @@ module _ (b : List ℕ) {s g : ℕ} (model : IsModel s g (rulesOf b)) (h : Shape
         dead-same (entriesIn s g) marks (itself (uppersOf s g rest)),
         upper-same model (hasLowers h) marks uppers,
         below-same (itself (uppersOf s g rest)) uppers,
-        mean-same model (meansFrom s g h) uppers (λ p z hp hz. refl {a = valueOf (meansBlock s g h rest) (rowAt g p z)}),
+        mean-same model (meansFrom s g h) uppers (λ p z hp hz. refl {a = valueAt (meansBlock s g h rest) (rowAt g p z)}),
       )
 
   pub numbers-by-rest : (d : List ℕ) → numberTests b s g h d

@@ -13,19 +13,19 @@ use Rattle.delivery.specs.declared.shape.Block.{Block}
 use Rattle.delivery.specs.declared.shape.Block.the-variants.{Uppers, Lowers, Means}
 use Rattle.delivery.specs.declared.shape.Shape.{Shape}
 use Rattle.delivery.specs.declared.shape.Shaped.the-variants.{Of}
-use Rattle.delivery.specs.Records.{byteOf, valueOf, kindOf, leastOf, mostOf}
+use Rattle.delivery.specs.Records.{byteOf, valueAt, kindOf, leastOf, mostOf}
 use Rattle.delivery.specs.Shapes.{hasLowers, hasMeans, meansFrom, shapeOf}
 use Rattle.ppda.specs.Order.{entriesIn, entryAt, rowAt}
 use Rattle.delivery.specs.Numbers.{uppersOf, lowersOf, meansOf}
 
 -- Record i is the one due there (21), with a value in range (22).
 pub record RecordDue (d : List ℕ) (i : ℕ) (k : Block) (p z q : ℕ) : Type 0 where
-  pub kind : byteOf d i 0 ≡ kindOf k
-  pub state : byteOf d i 1 ≡ p
-  pub symbol : byteOf d i 2 ≡ z
-  pub exit : byteOf d i 3 ≡ q
-  pub least : leastOf k ≤ valueOf d i
-  pub most : valueOf d i ≤ mostOf k
+  pub kind : kindAt d i ≡ kindOf k
+  pub state : stateAt d i ≡ p
+  pub symbol : symbolAt d i ≡ z
+  pub exit : exitAt d i ≡ q
+  pub least : leastOf k ≤ valueAt d i
+  pub most : valueAt d i ≤ mostOf k
 
 -- A statement about every entry, and about every row.
 abbrev pub AtEntries : ℕ → ℕ → (ℕ → ℕ → ℕ → Type 0) → Type 0

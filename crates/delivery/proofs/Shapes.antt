@@ -16,17 +16,18 @@ use Rattle.delivery.specs.declared.shape.Shape.the-variants.{U, UL, UR, 
 use Rattle.delivery.specs.declared.shape.Shaped.{Shaped}
 use Rattle.delivery.specs.declared.shape.Shaped.the-variants.{Of, Unknown}
 use Rattle.delivery.specs.declared.shape.Block.the-variants.{Lowers}
-use Rattle.delivery.specs.Records.{byteOf, kindOf}
+use Rattle.delivery.specs.Format.{recordBytes}
+use Rattle.delivery.specs.Records.{HasRecord, kindAt, kindOf}
 use Rattle.delivery.specs.Shapes.{hasLowers, hasMeans, meansFrom, recordsIn, longAs, lowersOrMeans, shapeOf}
 use Rattle.ppda.specs.Order.{entriesIn, rowsIn}
 
 -- ---- lengths
 
-long-exactly : (s g : ℕ) (h : Shape) (d : List ℕ) → (longAs s g h d ≡ true) ↔ (length d ≡ 8 * recordsIn s g h)
+long-exactly : (s g : ℕ) (h : Shape) (d : List ℕ) → (longAs s g h d ≡ true) ↔ (length d ≡ recordBytes * recordsIn s g h)
 unfolding longAs
 long-exactly s g h d = (eqb-true _ _, eq-eqb _ _)
 
-not-long : (s g : ℕ) (h : Shape) (d : List ℕ) → (length d ≡ 8 * recordsIn s g h → ⊥) → longAs s g h d ≡ false
+not-long : (s g : ℕ) (h : Shape) (d : List ℕ) → (length d ≡ recordBytes * recordsIn s g h → ⊥) → longAs s g h d ≡ false
 unfolding longAs
 not-long s g h d = ne-eqb _ _
 
@@ -82,18 +83,18 @@ none-chosen false false false true k q = let z : _≡_ {A = ℕ} 0 1 = cc in abs
 none-chosen false false false false k q = (refl, refl, refl, refl)
 
 -- The file is as long as UL, and so it is as long as the shape that stands for UL.
-long-as-either : (s g n : ℕ) (t : Bool) → n ≡ 8 * recordsIn s g UL → n ≡ 8 * recordsIn s g (cond (eqb s 1 && t) UR UL)
+long-as-either : (s g n : ℕ) (t : Bool) → n ≡ recordBytes * recordsIn s g UL → n ≡ recordBytes * recordsIn s g (cond (eqb s 1 && t) UR UL)
 long-as-either s g n t e = go (eqb s 1) refl t
   where
-    go : (b : Bool) → eqb s 1 ≡ b → (t : Bool) → n ≡ 8 * recordsIn s g (cond (b && t) UR UL)
-    go true q true = e ∙ ap (λ k. 8 * k) (one-state s g (eqb-true s 1 q))
+    go : (b : Bool) → eqb s 1 ≡ b → (t : Bool) → n ≡ recordBytes * recordsIn s g (cond (b && t) UR UL)
+    go true q true = e ∙ ap (λ k. recordBytes * k) (one-state s g (eqb-true s 1 q))
     go true q false = e
     go false q t = e
 
-pub shape-long : (s g : ℕ) (d : List ℕ) (h : Shape) → shapeOf s g d ≡ Of h → length d ≡ 8 * recordsIn s g h
+pub shape-long : (s g : ℕ) (d : List ℕ) (h : Shape) → shapeOf s g d ≡ Of h → length d ≡ recordBytes * recordsIn s g h
 unfolding shapeOf lowersOrMeans choose
 shape-long s g d =
-    chosen (λ h. length d ≡ 8 * recordsIn s g h)
+    chosen (λ h. length d ≡ recordBytes * recordsIn s g h)
     (longAs s g U d) (longAs s g UL d) (longAs s g UR d) (longAs s g ULR d) _
     (long-exactly s g U d .0)
     (λ e. long-as-either s g (length d) _ (long-exactly s g UL d .0 e))
@@ -111,14 +112,14 @@ none-long s g d e = go (none-chosen (longAs s g U d) (longAs s g UL d) (longAs s
     go n UR = n .2
     go n ULR = n .3
 
-pub shape-unknown : (s g : ℕ) (d : List ℕ) → (shapeOf s g d ≡ Unknown) ↔ ((h : Shape) → length d ≡ 8 * recordsIn s g h → ⊥)
+pub shape-unknown : (s g : ℕ) (d : List ℕ) → (shapeOf s g d ≡ Unknown) ↔ ((h : Shape) → length d ≡ recordBytes * recordsIn s g h → ⊥)
 unfolding shapeOf lowersOrMeans
 shape-unknown s g d = (
   λ e h l. true≢false (sym (long-exactly s g h d .1 l) ∙ none-long s g d e h),
   λ n. rw (not-long s g U d (n U), not-long s g UL d (n UL), not-long s g UR d (n UR), not-long s g ULR d (n ULR)),
 )
 
-pub shape-found : (s g : ℕ) (d : List ℕ) (h : Shape) → 1 < s → 0 < g → length d ≡ 8 * recordsIn s g h → shapeOf s g d ≡ Of h
+pub shape-found : (s g : ℕ) (d : List ℕ) (h : Shape) → 1 < s → 0 < g → length d ≡ recordBytes * recordsIn s g h → shapeOf s g d ≡ Of h
 shape-found s g d h hs hg l = go (shapeOf s g d) refl
   where
     go : (t : Shaped) → shapeOf s g d ≡ t → shapeOf s g d ≡ Of h
@@ -136,26 +137,26 @@ uppers-shorter g h = omega arith
 UL-not-UR : Of UL ≡ Of UR → ⊥
 UL-not-UR e = let z : _≡_ {A = ℕ} 0 1 = cc in omega arith
 
-module _ (g : ℕ) (d : List ℕ) (some : 0 < g) (long : length d ≡ 8 * recordsIn 1 g UL) where
+module _ (g : ℕ) (d : List ℕ) (some : 0 < g) (long : length d ≡ recordBytes * recordsIn 1 g UL) where
   -- The kind of record V decides.
-  by-kind : (t : Bool) → eqb (byteOf d (entriesIn 1 g) 0) (kindOf Lowers) ≡ t → shapeOf 1 g d ≡ Of (cond t UL UR)
+  by-kind : (t : Bool) → eqb (kindAt d (entriesIn 1 g)) (kindOf Lowers) ≡ t → shapeOf 1 g d ≡ Of (cond t UL UR)
   unfolding shapeOf lowersOrMeans
   by-kind true e = rw (not-long 1 g U d (λ q. omega (arith, uppers-shorter g some)), long-exactly 1 g UL d .1 long, e)
   by-kind false e = rw (not-long 1 g U d (λ q. omega (arith, uppers-shorter g some)), long-exactly 1 g UL d .1 long, e)
 
-  pub one-state-lowers : (shapeOf 1 g d ≡ Of UL) ↔ (byteOf d (entriesIn 1 g) 0 ≡ kindOf Lowers)
-  one-state-lowers = (go (eqb (byteOf d (entriesIn 1 g) 0) (kindOf Lowers)) refl, λ e. by-kind true (eq-eqb _ _ e))
+  pub one-state-lowers : (shapeOf 1 g d ≡ Of UL) ↔ (kindAt d (entriesIn 1 g) ≡ kindOf Lowers)
+  one-state-lowers = (go (eqb (kindAt d (entriesIn 1 g)) (kindOf Lowers)) refl, λ e. by-kind true (eq-eqb _ _ e))
     where
-      go : (t : Bool) → eqb (byteOf d (entriesIn 1 g) 0) (kindOf Lowers) ≡ t → shapeOf 1 g d ≡ Of UL
-          → byteOf d (entriesIn 1 g) 0 ≡ kindOf Lowers
+      go : (t : Bool) → eqb (kindAt d (entriesIn 1 g)) (kindOf Lowers) ≡ t → shapeOf 1 g d ≡ Of UL
+          → kindAt d (entriesIn 1 g) ≡ kindOf Lowers
       go true e q = eqb-true _ _ e
       go false e q = absurd (UL-not-UR (sym q ∙ by-kind false e))
 
-  pub one-state-means : (shapeOf 1 g d ≡ Of UR) ↔ (byteOf d (entriesIn 1 g) 0 ≡ kindOf Lowers → ⊥)
+  pub one-state-means : (shapeOf 1 g d ≡ Of UR) ↔ (kindAt d (entriesIn 1 g) ≡ kindOf Lowers → ⊥)
   one-state-means = (λ e q. UL-not-UR (sym (by-kind true (eq-eqb _ _ q)) ∙ e), λ n. by-kind false (ne-eqb _ _ n))
 
 -- The other two lengths give their shape.
-pub one-state-alone : (g : ℕ) (d : List ℕ) → 0 < g → length d ≡ 8 * recordsIn 1 g U → shapeOf 1 g d ≡ Of U
+pub one-state-alone : (g : ℕ) (d : List ℕ) → 0 < g → length d ≡ recordBytes * recordsIn 1 g U → shapeOf 1 g d ≡ Of U
 unfolding shapeOf
 one-state-alone g d some long = rw (long-exactly 1 g U d .1 long)
 
@@ -163,7 +164,7 @@ both-longer : (g : ℕ) → 0 < g → recordsIn 1 g UL < recordsIn 1 g ULR
 unfolding recordsIn meansFrom
 both-longer g h = omega arith
 
-pub one-state-both : (g : ℕ) (d : List ℕ) → 0 < g → length d ≡ 8 * recordsIn 1 g ULR → shapeOf 1 g d ≡ Of ULR
+pub one-state-both : (g : ℕ) (d : List ℕ) → 0 < g → length d ≡ recordBytes * recordsIn 1 g ULR → shapeOf 1 g d ≡ Of ULR
 unfolding shapeOf
 one-state-both g d some long =
     rw (
@@ -199,7 +200,7 @@ module _ (s g : ℕ) (d : List ℕ) where
   is-unknown a b c e = rw (a, b, c, e)
 
   -- A file as long as UL has a record V.
-  pub UL-has-more : 0 < s → 0 < g → longAs s g UL d ≡ true → 8 * entriesIn s g < length d
+  pub UL-has-more : 0 < s → 0 < g → longAs s g UL d ≡ true → HasRecord d (entriesIn s g)
   unfolding recordsIn meansFrom
   UL-has-more hs hg e = omega (arith, long-exactly s g UL d .0 e, mul-pos (mul-pos hs hg) hs)
 
@@ -224,11 +225,11 @@ unfolding recordsIn
 means-within s g h e = rw e
 
 module _ (s g : ℕ) (d : List ℕ) (h : Shape) (of : shapeOf s g d ≡ Of h) where
-  pub uppers-fit : 8 * entriesIn s g ≤ length d
+  pub uppers-fit : recordBytes * entriesIn s g ≤ length d
   uppers-fit = omega (arith, shape-long s g d h of, uppers-within s g h)
 
-  pub lowers-fit : hasLowers h ≡ true → 8 * (entriesIn s g + entriesIn s g) ≤ length d
+  pub lowers-fit : hasLowers h ≡ true → recordBytes * (entriesIn s g + entriesIn s g) ≤ length d
   lowers-fit e = omega (arith, shape-long s g d h of, lowers-within s g h e)
 
-  pub means-fit : hasMeans h ≡ true → 8 * (meansFrom s g h + rowsIn s g) ≤ length d
+  pub means-fit : hasMeans h ≡ true → recordBytes * (meansFrom s g h + rowsIn s g) ≤ length d
   means-fit e = omega (arith, shape-long s g d h of, means-within s g h e)

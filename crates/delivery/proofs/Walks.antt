@@ -14,8 +14,10 @@ use Rattle.words.specs.Words.{wordAt}
 use Rattle.ppda.proofs.Lists.{getD-zeros}
 use Rattle.ppda.proofs.Places.{row-at}
 use Rattle.outcome.specs.Tests.{Test, each}
+use Rattle.model.specs.Format.{mostEntries}
 use Rattle.outcome.proofs.Tests.{each-cong}
-use Rattle.delivery.specs.Records.{valueOf}
+use Rattle.delivery.specs.Format.{recordBytes, valueByte}
+use Rattle.delivery.specs.Records.{valueAt}
 use Rattle.ppda.specs.Order.{entryAt}
 use Rattle.delivery.specs.Layout.{eachEntry, eachRow}
 use Rattle.delivery.specs.Walks.{Values}
@@ -65,16 +67,16 @@ word-past d n at to e = rw (getD-drop n d at 0, e, byte 1, byte 2, byte 3)
     byte : (j : ℕ) → getD (drop n d) (at + j) 0 ≡ getD d (to + j) 0
     byte j = getD-drop n d (at + j) 0 ∙ ap (λ k. getD d k 0) (omega arith)
 
-pub rest-value : (d : List ℕ) (n i : ℕ) → valueOf (drop (8 * n) d) i ≡ valueOf d (n + i)
-unfolding valueOf
-rest-value d n i = word-past d (8 * n) (8 * i + 4) (8 * (n + i) + 4) (omega arith)
+pub rest-value : (d : List ℕ) (n i : ℕ) → valueAt (drop (recordBytes * n) d) i ≡ valueAt d (n + i)
+unfolding valueAt
+rest-value d n i = word-past d (recordBytes * n) (recordBytes * i + valueByte) (recordBytes * (n + i) + valueByte) (omega arith)
 
 -- ---- the values of the first n records, one after the other
 
-pub values-none : (d : List ℕ) → Values d 0 (replicate 1024 0)
-values-none d = record { size = length-replicate {A = ℕ} 1024 0; value = λ e h. absurd (omega arith); none = λ e h. getD-zeros 1024 e }
+pub values-none : (d : List ℕ) → Values d 0 (replicate mostEntries 0)
+values-none d = record { size = length-replicate {A = ℕ} mostEntries 0; value = λ e h. absurd (omega arith); none = λ e h. getD-zeros mostEntries e }
 
-pub values-step : {d : List ℕ} {n : ℕ} {l : List ℕ} (v : ℕ) → Values d n l → n < 1024 → v ≡ valueOf d n → Values d (n + 1) (set l n v)
+pub values-step : {d : List ℕ} {n : ℕ} {l : List ℕ} (v : ℕ) → Values d n l → n < mostEntries → v ≡ valueAt d n → Values d (n + 1) (set l n v)
 values-step {d} {n} {l} v before room e =
     record {
       size = length-set l n v ∙ before .size;
@@ -82,7 +84,7 @@ values-step {d} {n} {l} v before room e =
       none = λ i h. getD-set-other l n i v 0 (λ q. omega arith) ∙ before .none i (omega arith);
     }
   where
-    go : (i : ℕ) → i < n + 1 → (t : Bool) → eqb i n ≡ t → getD (set l n v) i 0 ≡ valueOf d i
+    go : (i : ℕ) → i < n + 1 → (t : Bool) → eqb i n ≡ t → getD (set l n v) i 0 ≡ valueAt d i
     go i h true u = let q : i ≡ n = eqb-true i n u in rw q (getD-set-same l n v 0 (omega (arith, before .size)) ∙ e)
     go i h false u = let q : i ≡ n → ⊥ = eqb-false i n u in getD-set-other l n i v 0 q ∙ before .value i (omega arith)
 

@@ -8,7 +8,7 @@ use Rattle.outcome.specs.Tests.{Test, plain, each}
 use Rattle.delivery.specs.declared.shape.Block.{Block}
 use Rattle.delivery.specs.declared.shape.Block.the-variants.{Uppers, Lowers, Means}
 use Rattle.delivery.specs.declared.shape.Shape.{Shape}
-use Rattle.delivery.specs.Records.{byteOf, valueOf, kindOf, leastOf, mostOf}
+use Rattle.delivery.specs.Records.{kindAt, stateAt, symbolAt, exitAt, valueAt, kindOf, leastOf, mostOf}
 use Rattle.delivery.specs.Shapes.{hasLowers, hasMeans, meansFrom}
 use Rattle.ppda.specs.Order.{entriesIn, entryAt, rowAt}
 
@@ -26,10 +26,10 @@ onlyIf false ts = []
 
 -- Record i has the kind of the block and the p, Z, q due there, and its value is in the block's range.
 unfoldable pub isDue : List ℕ → ℕ → Block → ℕ → ℕ → ℕ → Bool
-isDue d i k p z q = eqb (byteOf d i 0) (kindOf k) && (eqb (byteOf d i 1) p && (eqb (byteOf d i 2) z && eqb (byteOf d i 3) q))
+isDue d i k p z q = eqb (kindAt d i) (kindOf k) && (eqb (stateAt d i) p && (eqb (symbolAt d i) z && eqb (exitAt d i) q))
 
 unfoldable pub inRange : List ℕ → ℕ → Block → Bool
-inRange d i k = leb (leastOf k) (valueOf d i) && leb (valueOf d i) (mostOf k)
+inRange d i k = leb (leastOf k) (valueAt d i) && leb (valueAt d i) (mostOf k)
 
 -- The tests of record i: 21, then 22.
 unfoldable pub recordTests : List ℕ → ℕ → Block → ℕ → ℕ → ℕ → List Test

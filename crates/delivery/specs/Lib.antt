@@ -1,5 +1,6 @@
--- A delivery file (document 01, "Deliveries"), in the order of the document: its records, shapes and numbers, and the tests 21 and 22. `Walks`
+-- A delivery file (document 01, "Deliveries"), in the order of the document: its format, records, shapes and numbers, and the tests 21 and 22. `Walks`
 -- serves the contracts of the code alone.
+pub mod Format
 pub mod Records
 pub mod Shapes
 pub mod Numbers

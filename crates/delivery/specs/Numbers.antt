@@ -3,21 +3,21 @@ use Prim.Native.Nat.{ℕ, _+_, _*_}
 use mathlib.Core.List.{List}
 use Rattle.ppda.specs.Equations.{Vector, RowVector}
 use Rattle.delivery.specs.declared.shape.Shape.{Shape}
-use Rattle.delivery.specs.Records.{valueOf}
+use Rattle.delivery.specs.Records.{valueAt}
 use Rattle.delivery.specs.Shapes.{meansFrom}
 use Rattle.ppda.specs.Order.{entriesIn, entryAt, rowAt}
 
 -- The uppers, the lowers and the mean steps of a file.
 unfoldable pub uppersOf : ℕ → ℕ → List ℕ → Vector
-uppersOf s g d p z q = valueOf d (entryAt s g p z q)
+uppersOf s g d p z q = valueAt d (entryAt s g p z q)
 
 unfoldable pub lowersOf : ℕ → ℕ → List ℕ → Vector
-lowersOf s g d p z q = valueOf d (entriesIn s g + entryAt s g p z q)
+lowersOf s g d p z q = valueAt d (entriesIn s g + entryAt s g p z q)
 
 unfoldable pub meansOf : ℕ → ℕ → Shape → List ℕ → RowVector
-meansOf s g h d p z = valueOf d (meansFrom s g h + rowAt g p z)
+meansOf s g h d p z = valueAt d (meansFrom s g h + rowAt g p z)
 
 -- The numbers of a block by itself: `uppersOf` reads the first V values of any bytes, so of the part from record V on it reads the lowers. Mean
 -- steps are the values by rows.
 abbrev pub rowsOfBlock : ℕ → List ℕ → RowVector
-rowsOfBlock g d p z = valueOf d (rowAt g p z)
+rowsOfBlock g d p z = valueAt d (rowAt g p z)

@@ -1,32 +1,51 @@
--- The records of a delivery file: 8 bytes each, kind, p, Z, q and a value of four bytes.
-use Prim.Native.Nat.{ℕ, _+_, _*_}
+-- The records of a delivery file.
+use Prim.Native.Nat.{ℕ, _+_, _*_, _≤_}
 use mathlib.Core.List.{List}
-use lib.ListN.{getD}
+use lib.ListN.{length, getD}
 use Rattle.words.specs.Words.{wordAt}
+use Rattle.ppda.specs.Units.{mostChance, leastMean, mostMean}
 use Rattle.delivery.specs.declared.shape.Block.{Block}
 use Rattle.delivery.specs.declared.shape.Block.the-variants.{Uppers, Lowers, Means}
+use Rattle.delivery.specs.Format.{recordBytes, kindByte, stateByte, symbolByte, exitByte, valueByte, upperKind, lowerKind, meanKind}
+
+-- Record i is whole in the file.
+abbrev pub HasRecord : List ℕ → ℕ → Type 0
+HasRecord d i = recordBytes * (i + 1) ≤ length d
 
 -- Byte k of record i.
 unfoldable pub byteOf : List ℕ → ℕ → ℕ → ℕ
-byteOf d i k = getD d (8 * i + k) 0
+byteOf d i k = getD d (recordBytes * i + k) 0
+
+-- The kind, p, Z and q of record i.
+abbrev pub kindAt : List ℕ → ℕ → ℕ
+kindAt d i = byteOf d i kindByte
+
+abbrev pub stateAt : List ℕ → ℕ → ℕ
+stateAt d i = byteOf d i stateByte
+
+abbrev pub symbolAt : List ℕ → ℕ → ℕ
+symbolAt d i = byteOf d i symbolByte
+
+abbrev pub exitAt : List ℕ → ℕ → ℕ
+exitAt d i = byteOf d i exitByte
 
 -- The value of record i.
-unfoldable pub valueOf : List ℕ → ℕ → ℕ
-valueOf d i = wordAt d (8 * i + 4)
+unfoldable pub valueAt : List ℕ → ℕ → ℕ
+valueAt d i = wordAt d (recordBytes * i + valueByte)
 
--- The kind of a block's records: the letters U, L and R.
+-- The kind of a block's records.
 abbrev pub kindOf : Block → ℕ
-kindOf Uppers = 85
-kindOf Lowers = 76
-kindOf Means = 82
+kindOf Uppers = upperKind
+kindOf Lowers = lowerKind
+kindOf Means = meanKind
 
--- The least and the greatest value of a block: U and L count 1,048,576ths and may be up to 2; R counts 256ths of a step, from 1 to 16,384.
+-- The least and the greatest value of a block.
 abbrev pub leastOf : Block → ℕ
 leastOf Uppers = 0
 leastOf Lowers = 0
-leastOf Means = 256
+leastOf Means = leastMean
 
 abbrev pub mostOf : Block → ℕ
-mostOf Uppers = 2097152
-mostOf Lowers = 2097152
-mostOf Means = 4194304
+mostOf Uppers = mostChance
+mostOf Lowers = mostChance
+mostOf Means = mostMean

@@ -9,7 +9,8 @@ use Rattle.delivery.specs.declared.shape.Shape.the-variants.{U, UL, UR, 
 use Rattle.delivery.specs.declared.shape.Shaped.{Shaped}
 use Rattle.delivery.specs.declared.shape.Shaped.the-variants.{Of, Unknown}
 use Rattle.delivery.specs.declared.shape.Block.the-variants.{Lowers}
-use Rattle.delivery.specs.Records.{byteOf, kindOf}
+use Rattle.delivery.specs.Format.{recordBytes}
+use Rattle.delivery.specs.Records.{kindAt, kindOf}
 use Rattle.ppda.specs.Order.{entriesIn, rowsIn}
 
 -- Whether a shape has lowers, and whether it has mean steps.
@@ -35,12 +36,12 @@ recordsIn s g h = cond (hasMeans h) (meansFrom s g h + rowsIn s g) (meansFrom s 
 
 -- The file has as many bytes as the shape's records.
 unfoldable pub longAs : ℕ → ℕ → Shape → List ℕ → Bool
-longAs s g h d = eqb (length d) (8 * recordsIn s g h)
+longAs s g h d = eqb (length d) (recordBytes * recordsIn s g h)
 
 -- Which shape a file as long as UL has. Where s is 1, UL and UR are equally long, and the kind of record V decides: 76 means UL and all
 -- else UR.
 unfoldable pub lowersOrMeans : ℕ → ℕ → List ℕ → Shape
-lowersOrMeans s g d = cond (eqb s 1 && not (eqb (byteOf d (entriesIn s g) 0) (kindOf Lowers))) UR UL
+lowersOrMeans s g d = cond (eqb s 1 && not (eqb (kindAt d (entriesIn s g)) (kindOf Lowers))) UR UL
 
 -- The shape of a file for a model with s states and g symbols.
 unfoldable pub shapeOf : ℕ → ℕ → List ℕ → Shaped

@@ -4,8 +4,17 @@ use mathlib.Core.List.{List}
 use mathlib.Core.Path.{_≡_}
 use lib.ListN.{length, getD}
 use Rattle.outcome.specs.Tests.{Test, each}
+use Rattle.ppda.specs.Order.{rowsIn, entriesIn}
+use Rattle.ppda.specs.Units.{mostChance, mostMean}
+use Rattle.model.specs.Format.{mostEntries}
+use Rattle.model.specs.declared.sizes.Sizes.{Sizes}
+use Rattle.model.specs.Sizes.{Fits}
 use Rattle.delivery.specs.declared.shape.Block.{Block}
-use Rattle.delivery.specs.Records.{valueOf}
+use Rattle.delivery.specs.declared.shape.Shape.{Shape}
+use Rattle.delivery.specs.declared.shape.Shaped.the-variants.{Of}
+use Rattle.delivery.specs.Format.{recordBytes}
+use Rattle.delivery.specs.Records.{valueAt}
+use Rattle.delivery.specs.Shapes.{shapeOf}
 use Rattle.delivery.specs.Layout.{recordTests}
 
 -- The record for exit q of a row whose records start at record `at`.
@@ -20,13 +29,29 @@ rowOfState d k at n p z = each n (recordOfRow d k (at + z * n) p z)
 abbrev pub stateOfBlock : List ℕ → Block → ℕ → ℕ → ℕ → ℕ → List Test
 stateOfBlock d k from n g p = each g (rowOfState d k (from + p * g * n) n p)
 
--- The list of 1,024 numbers has the values of the first n records of d, and 0 from there on.
+-- The list of as many numbers as entries may have has the values of the first n records of d, and 0 from there on.
 pub record Values (d : List ℕ) (n : ℕ) (l : List ℕ) : Type 0 where
-  pub size : length l ≡ 1024
-  pub value : (e : ℕ) → e < n → getD l e 0 ≡ valueOf d e
+  pub size : length l ≡ mostEntries
+  pub value : (e : ℕ) → e < n → getD l e 0 ≡ valueAt d e
   pub none : (e : ℕ) → n ≤ e → getD l e 0 ≡ 0
+
+-- The file has n records from record `at` on.
+abbrev pub HasBlock : ℕ → ℕ → List ℕ → Type 0
+HasBlock at n d = recordBytes * (at + n) ≤ length d
 
 -- The bytes have n records or more, and no value of them is above a.
 pub record Within (d : List ℕ) (n a : ℕ) : Type 0 where
-  pub whole : 8 * n ≤ length d
-  pub most : (e : ℕ) → valueOf d e ≤ a
+  pub whole : recordBytes * n ≤ length d
+  pub most : (e : ℕ) → valueAt d e ≤ a
+
+-- A block of chances in range, uppers or lowers: one for each entry. And a block of mean steps in range: one for each row.
+abbrev pub Chances : Sizes → List ℕ → Type 0
+Chances n d = Within d (entriesIn (n .states) (n .symbols)) mostChance
+
+abbrev pub MeanSteps : Sizes → List ℕ → Type 0
+MeanSteps n d = Within d (rowsIn (n .states) (n .symbols)) mostMean
+
+-- The file's shape for a model of these sizes is h, and the sizes fit.
+pub record ShapedFile (n : Sizes) (h : Shape) (d : List ℕ) : Type 0 where
+  pub fits : Fits (n .states) (n .symbols)
+  pub of : shapeOf (n .states) (n .symbols) d ≡ Of h

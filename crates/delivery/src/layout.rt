@@ -3,23 +3,23 @@
 use super::record;
 use super::shape::Block;
 use super::shape::Shape;
-use super::shape::entries;
 use super::shape::has_lowers;
 use super::shape::has_means;
 use super::shape::means_from;
+use model::sizes::Sizes;
 use outcome::Outcome;
 ghost use mathlib.Core.Path.{_≡_};
-ghost use Prim.Native.Nat.{_+_, _*_, _≤_, _<_};
-ghost use lib.ListN.{length};
+ghost use Prim.Native.Nat.{_*_};
 ghost use Rattle.outcome.specs.Tests.{first, each};
-ghost use Rattle.delivery.specs.declared.shape.Shaped.the-variants.{Of};
-ghost use Rattle.delivery.specs.Shapes.{shapeOf, hasLowers};
+ghost use Rattle.ppda.specs.Order.{rowsIn};
+ghost use Rattle.model.specs.Sizes.{Fits};
+ghost use Rattle.delivery.specs.Shapes.{hasLowers};
 ghost use Rattle.delivery.specs.Layout.{onlyIf, lowerRecords, layoutTests};
-ghost use Rattle.delivery.specs.Walks.{recordOfRow, rowOfState, stateOfBlock};
+ghost use Rattle.delivery.specs.Walks.{recordOfRow, rowOfState, stateOfBlock, HasBlock, ShapedFile};
 
 // The records of one row of a block, from record `at` on: one for each of the exits.
 fn check_row(delivery: &[u8], block: Block, at: usize, exits: usize, p: usize, z: usize) -> Outcome
-    requires { ⌜ 8 * (at + exits) ≤ length (now delivery) ⌝ }
+    requires { ⌜ HasBlock at exits (now delivery) ⌝ }
     ensures { λ r. ⌜ r ≡ first (each exits (recordOfRow (now (delivery .entry)) block at p z)) ⌝ }
 {
     let mut q = 0;
@@ -42,7 +42,7 @@ fn check_state(
     g: usize,
     p: usize,
 ) -> Outcome
-    requires { ⌜ (8 * (at + g * exits) ≤ length (now delivery)) × (g < 17) × (exits < 9) × (at ≤ 4096) ⌝ }
+    requires { ⌜ HasBlock at (g * exits) (now delivery) ⌝ }
     ensures { λ r. ⌜ r ≡ first (each g (rowOfState (now (delivery .entry)) block at exits p)) ⌝ }
 {
     let mut z = 0;
@@ -62,12 +62,13 @@ fn check_block(
     block: Block,
     from: usize,
     exits: usize,
-    s: usize,
-    g: usize,
+    n: Sizes,
 ) -> Outcome
-    requires { ⌜ (8 * (from + s * g * exits) ≤ length (now delivery)) × (s < 9) × (g < 17) × (exits < 9) × (from ≤ 2048) ⌝ }
-    ensures { λ r. ⌜ r ≡ first (each s (stateOfBlock (now (delivery .entry)) block from exits g)) ⌝ }
+    requires { ⌜ Fits (n .states) (n .symbols) × HasBlock from (rowsIn (n .states) (n .symbols) * exits) (now delivery) ⌝ }
+    ensures { λ r. ⌜ r ≡ first (each (n .states) (stateOfBlock (now (delivery .entry)) block from exits (n .symbols))) ⌝ }
 {
+    let s = n.states;
+    let g = n.symbols;
     let mut p = 0;
     while p < s {
         let found = check_state(delivery, block, from + p * g * exits, exits, g, p);
@@ -80,32 +81,34 @@ fn check_block(
 }
 
 // The records of the lowers, where they stand.
-fn check_lowers(delivery: &[u8], s: usize, g: usize, shape: Shape) -> Outcome
-    requires { ⌜ (shapeOf s g (now delivery) ≡ Of shape) × (0 < s) × (s < 9) × (0 < g) × (g < 17) ⌝ }
-    ensures { λ r. ⌜ r ≡ first (onlyIf (hasLowers shape) (lowerRecords s g (now (delivery .entry)))) ⌝ }
+fn check_lowers(delivery: &[u8], n: Sizes, shape: Shape) -> Outcome
+    requires { ⌜ ShapedFile n shape (now delivery) ⌝ }
+    ensures { λ r. ⌜ r ≡ first (onlyIf (hasLowers shape) (lowerRecords (n .states) (n .symbols) (now (delivery .entry)))) ⌝ }
 {
+    let s = n.states;
     if has_lowers(shape) {
-        check_block(delivery, Block::Lowers, entries(s, g), s, s, g)
+        check_block(delivery, Block::Lowers, n.entries(), s, n)
     } else {
         Outcome::Accepted
     }
 }
 
 // The records of all blocks, in their order.
-pub fn check(delivery: &[u8], s: usize, g: usize, shape: Shape) -> Outcome
-    requires { ⌜ (shapeOf s g (now delivery) ≡ Of shape) × (0 < s) × (s < 9) × (0 < g) × (g < 17) ⌝ }
-    ensures { λ r. ⌜ r ≡ first (layoutTests s g shape (now (delivery .entry))) ⌝ }
+pub fn check(delivery: &[u8], n: Sizes, shape: Shape) -> Outcome
+    requires { ⌜ ShapedFile n shape (now delivery) ⌝ }
+    ensures { λ r. ⌜ r ≡ first (layoutTests (n .states) (n .symbols) shape (now (delivery .entry))) ⌝ }
 {
-    let found = check_block(delivery, Block::Uppers, 0, s, s, g);
+    let s = n.states;
+    let found = check_block(delivery, Block::Uppers, 0, s, n);
     if let Outcome::Refused { .. } = found {
         return found;
     }
-    let found = check_lowers(delivery, s, g, shape);
+    let found = check_lowers(delivery, n, shape);
     if let Outcome::Refused { .. } = found {
         return found;
     }
     if has_means(shape) {
-        check_block(delivery, Block::Means, means_from(s, g, shape), 1, s, g)
+        check_block(delivery, Block::Means, means_from(n, shape), 1, n)
     } else {
         Outcome::Accepted
     }

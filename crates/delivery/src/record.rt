@@ -1,30 +1,74 @@
-// One record of a delivery: its numbers and its tests.
+// One record of a delivery: its numbers, by the names of specs/Records.antt, and its tests.
 
+use super::format::EXIT_BYTE;
+use super::format::KIND_BYTE;
+use super::format::LEAST_MEAN;
+use super::format::LOWER_KIND;
+use super::format::MEAN_KIND;
+use super::format::MOST_CHANCE;
+use super::format::MOST_MEAN;
+use super::format::RECORD_BYTES;
+use super::format::STATE_BYTE;
+use super::format::SYMBOL_BYTE;
+use super::format::UPPER_KIND;
+use super::format::VALUE_BYTE;
 use super::shape::Block;
 use outcome::Outcome;
 use outcome::Reason;
 use outcome::refused;
 ghost use mathlib.Core.Path.{_≡_};
-ghost use Prim.Native.Nat.{_+_, _*_, _<_, _^_};
-ghost use lib.ListN.{length};
+ghost use Prim.Native.Nat.{_<_, _^_};
 ghost use Rattle.outcome.specs.Tests.{first};
-ghost use Rattle.delivery.specs.Records.{byteOf, valueOf, kindOf, leastOf, mostOf};
+ghost use Rattle.delivery.specs.Format.{recordBytes};
+ghost use Rattle.delivery.specs.Records.{HasRecord, byteOf, kindAt, stateAt, symbolAt, exitAt, valueAt, kindOf, leastOf, mostOf};
 ghost use Rattle.delivery.specs.Layout.{isDue, inRange, recordTests};
 
 // Byte k of record i.
-pub(crate) fn byte_of(delivery: &[u8], i: usize, k: usize) -> usize
-    requires { ⌜ 8 * i + k < length (now delivery) ⌝ }
-    ensures { λ r. ⌜ (r ≡ byteOf (now (delivery .entry)) i k) × (r < 256) ⌝ }
+fn byte_of(delivery: &[u8], i: usize, k: usize) -> usize
+    requires { ⌜ HasRecord (now delivery) i × (k < recordBytes) ⌝ }
+    ensures { λ r. ⌜ (r ≡ byteOf (now (delivery .entry)) i k) × (r < 65536) ⌝ }
 {
-    words::byte(delivery, 8 * i + k)
+    words::byte(delivery, RECORD_BYTES * i + k)
 }
 
-// The value of record i.
-pub(crate) fn value_of(delivery: &[u8], i: usize) -> u64
-    requires { ⌜ 8 * i + 7 < length (now delivery) ⌝ }
-    ensures { λ r. ⌜ (r ≡ valueOf (now (delivery .entry)) i) × (r < 2 ^ 32) ⌝ }
+// The kind of record i.
+pub(crate) fn kind_at(delivery: &[u8], i: usize) -> usize
+    requires { ⌜ HasRecord (now delivery) i ⌝ }
+    ensures { λ r. ⌜ (r ≡ kindAt (now (delivery .entry)) i) × (r < 65536) ⌝ }
 {
-    words::word(delivery, 8 * i + 4)
+    byte_of(delivery, i, KIND_BYTE)
+}
+
+// Its state.
+fn state_at(delivery: &[u8], i: usize) -> usize
+    requires { ⌜ HasRecord (now delivery) i ⌝ }
+    ensures { λ r. ⌜ (r ≡ stateAt (now (delivery .entry)) i) × (r < 65536) ⌝ }
+{
+    byte_of(delivery, i, STATE_BYTE)
+}
+
+// Its symbol.
+fn symbol_at(delivery: &[u8], i: usize) -> usize
+    requires { ⌜ HasRecord (now delivery) i ⌝ }
+    ensures { λ r. ⌜ (r ≡ symbolAt (now (delivery .entry)) i) × (r < 65536) ⌝ }
+{
+    byte_of(delivery, i, SYMBOL_BYTE)
+}
+
+// Its exit.
+fn exit_at(delivery: &[u8], i: usize) -> usize
+    requires { ⌜ HasRecord (now delivery) i ⌝ }
+    ensures { λ r. ⌜ (r ≡ exitAt (now (delivery .entry)) i) × (r < 65536) ⌝ }
+{
+    byte_of(delivery, i, EXIT_BYTE)
+}
+
+// Its value.
+pub fn value_at(delivery: &[u8], i: usize) -> u64
+    requires { ⌜ HasRecord (now delivery) i ⌝ }
+    ensures { λ r. ⌜ (r ≡ valueAt (now (delivery .entry)) i) × (r < 2 ^ 32) ⌝ }
+{
+    words::word(delivery, RECORD_BYTES * i + VALUE_BYTE)
 }
 
 // The kind of a block's records.
@@ -32,9 +76,9 @@ pub(crate) fn kind(block: Block) -> usize
     ensures { λ r. ⌜ r ≡ kindOf block ⌝ }
 {
     match block {
-        Block::Uppers => 85,
-        Block::Lowers => 76,
-        Block::Means => 82,
+        Block::Uppers => UPPER_KIND,
+        Block::Lowers => LOWER_KIND,
+        Block::Means => MEAN_KIND,
     }
 }
 
@@ -45,7 +89,7 @@ fn least(block: Block) -> u64
     match block {
         Block::Uppers => 0,
         Block::Lowers => 0,
-        Block::Means => 256,
+        Block::Means => LEAST_MEAN,
     }
 }
 
@@ -54,30 +98,30 @@ fn most(block: Block) -> u64
     ensures { λ r. ⌜ r ≡ mostOf block ⌝ }
 {
     match block {
-        Block::Uppers => 2097152,
-        Block::Lowers => 2097152,
-        Block::Means => 4194304,
+        Block::Uppers => MOST_CHANCE,
+        Block::Lowers => MOST_CHANCE,
+        Block::Means => MOST_MEAN,
     }
 }
 
 // Whether record i has the kind, p, Z and q due there.
 fn is_due(delivery: &[u8], i: usize, block: Block, p: usize, z: usize, q: usize) -> bool
-    requires { ⌜ 8 * i + 7 < length (now delivery) ⌝ }
+    requires { ⌜ HasRecord (now delivery) i ⌝ }
     ensures { λ r. ⌜ r ≡ isDue (now (delivery .entry)) i block p z q ⌝ }
 {
-    let k = byte_of(delivery, i, 0) == kind(block);
-    let a = byte_of(delivery, i, 1) == p;
-    let b = byte_of(delivery, i, 2) == z;
-    let c = byte_of(delivery, i, 3) == q;
+    let k = kind_at(delivery, i) == kind(block);
+    let a = state_at(delivery, i) == p;
+    let b = symbol_at(delivery, i) == z;
+    let c = exit_at(delivery, i) == q;
     k & (a & (b & c))
 }
 
 // Whether the value of record i is in the block's range.
 fn in_range(delivery: &[u8], i: usize, block: Block) -> bool
-    requires { ⌜ 8 * i + 7 < length (now delivery) ⌝ }
+    requires { ⌜ HasRecord (now delivery) i ⌝ }
     ensures { λ r. ⌜ r ≡ inRange (now (delivery .entry)) i block ⌝ }
 {
-    let v = value_of(delivery, i);
+    let v = value_at(delivery, i);
     (least(block) <= v) & (v <= most(block))
 }
 
@@ -90,7 +134,7 @@ pub(crate) fn check(
     z: usize,
     q: usize,
 ) -> Outcome
-    requires { ⌜ 8 * i + 7 < length (now delivery) ⌝ }
+    requires { ⌜ HasRecord (now delivery) i ⌝ }
     ensures { λ r. ⌜ r ≡ first (recordTests (now (delivery .entry)) i block p z q) ⌝ }
 {
     if !is_due(delivery, i, block, p, z, q) {

@@ -1,10 +1,16 @@
 // The shape of a delivery: which blocks it has.
 
-use super::record::byte_of;
+use super::format::RECORD_BYTES;
 use super::record::kind;
+use super::record::kind_at;
+use model::sizes::Sizes;
 ghost use mathlib.Core.Path.{_≡_};
-ghost use Prim.Native.Nat.{_*_, _≤_, _<_};
-ghost use lib.ListN.{length};
+ghost use Prim.Native.Nat.{_+_, _≤_};
+ghost use Rattle.ppda.specs.Order.{entriesIn};
+ghost use Rattle.model.specs.Format.{mostRows};
+ghost use Rattle.model.specs.Sizes.{Fits};
+ghost use Rattle.delivery.specs.Format.{mostRecords};
+ghost use Rattle.delivery.specs.Records.{HasRecord};
 ghost use Rattle.delivery.specs.Shapes.{hasLowers, hasMeans, meansFrom, recordsIn, longAs, lowersOrMeans, shapeOf};
 
 // The four shapes: uppers; with lowers; with mean steps; with both.
@@ -52,79 +58,65 @@ pub fn has_means(shape: Shape) -> bool
     }
 }
 
-// V, the number of entries of a model with s states and g symbols, at most 1,024.
-pub fn entries(s: usize, g: usize) -> usize
-    requires { ⌜ (s < 9) × (g < 17) ⌝ }
-    ensures { λ r. ⌜ (r ≡ s * g * s) × (r ≤ 1024) ⌝ }
-{
-    s * g * s
-}
-
-// The number of rows, at most 128.
-pub fn rows(s: usize, g: usize) -> usize
-    requires { ⌜ (s < 9) × (g < 17) ⌝ }
-    ensures { λ r. ⌜ (r ≡ s * g) × (r ≤ 128) ⌝ }
-{
-    s * g
-}
-
 // The record at which a shape's mean steps start.
-pub fn means_from(s: usize, g: usize, shape: Shape) -> usize
-    requires { ⌜ (s < 9) × (g < 17) ⌝ }
-    ensures { λ r. ⌜ (r ≡ meansFrom s g shape) × (r ≤ 2048) ⌝ }
+pub fn means_from(n: Sizes, shape: Shape) -> usize
+    requires { ⌜ Fits (n .states) (n .symbols) ⌝ }
+    ensures { λ r. ⌜ (r ≡ meansFrom (n .states) (n .symbols) shape) × (r ≤ mostRecords) ⌝ }
 {
-    let v = entries(s, g);
+    let v = n.entries();
     if has_lowers(shape) { v + v } else { v }
 }
 
 // How many records a shape has.
-fn records_in(s: usize, g: usize, shape: Shape) -> usize
-    requires { ⌜ (s < 9) × (g < 17) ⌝ }
-    ensures { λ r. ⌜ (r ≡ recordsIn s g shape) × (r ≤ 2176) ⌝ }
+fn records_in(n: Sizes, shape: Shape) -> usize
+    requires { ⌜ Fits (n .states) (n .symbols) ⌝ }
+    ensures { λ r. ⌜ (r ≡ recordsIn (n .states) (n .symbols) shape) × (r ≤ mostRecords + mostRows) ⌝ }
 {
-    let from = means_from(s, g, shape);
+    let from = means_from(n, shape);
     if has_means(shape) {
-        from + rows(s, g)
+        from + n.rows()
     } else {
         from
     }
 }
 
 // Whether the file has as many bytes as the shape's records.
-fn long_as(delivery: &[u8], s: usize, g: usize, shape: Shape) -> bool
-    requires { ⌜ (s < 9) × (g < 17) ⌝ }
-    ensures { λ r. ⌜ r ≡ longAs s g shape (now (delivery .entry)) ⌝ }
+fn long_as(delivery: &[u8], n: Sizes, shape: Shape) -> bool
+    requires { ⌜ Fits (n .states) (n .symbols) ⌝ }
+    ensures { λ r. ⌜ r ≡ longAs (n .states) (n .symbols) shape (now (delivery .entry)) ⌝ }
 {
-    delivery.len() == 8 * records_in(s, g, shape)
+    delivery.len() == RECORD_BYTES * records_in(n, shape)
 }
 
 // Which of the two shapes a file as long as UL has: UR where s is 1 and the kind of record V is not that of lowers.
-fn lowers_or_means(delivery: &[u8], s: usize, g: usize) -> Shape
-    requires { ⌜ (8 * (s * g * s) < length (now delivery)) × (s < 9) × (g < 17) ⌝ }
-    ensures { λ r. ⌜ r ≡ lowersOrMeans s g (now (delivery .entry)) ⌝ }
+fn lowers_or_means(delivery: &[u8], n: Sizes) -> Shape
+    requires { ⌜ Fits (n .states) (n .symbols) × HasRecord (now delivery) (entriesIn (n .states) (n .symbols)) ⌝ }
+    ensures { λ r. ⌜ r ≡ lowersOrMeans (n .states) (n .symbols) (now (delivery .entry)) ⌝ }
 {
-    if (s == 1) & (byte_of(delivery, entries(s, g), 0) != kind(Block::Lowers)) {
+    let v = n.entries();
+    let s = n.states;
+    if (s == 1) & (kind_at(delivery, v) != kind(Block::Lowers)) {
         Shape::UR
     } else {
         Shape::UL
     }
 }
 
-// The shape of a file for a model with s states and g symbols.
-pub fn shape_of(delivery: &[u8], s: usize, g: usize) -> Shaped
-    requires { ⌜ (0 < s) × (s < 9) × (0 < g) × (g < 17) ⌝ }
-    ensures { λ r. ⌜ r ≡ shapeOf s g (now (delivery .entry)) ⌝ }
+// The shape of a file for a model of these sizes.
+pub fn shape_of(delivery: &[u8], n: Sizes) -> Shaped
+    requires { ⌜ Fits (n .states) (n .symbols) ⌝ }
+    ensures { λ r. ⌜ r ≡ shapeOf (n .states) (n .symbols) (now (delivery .entry)) ⌝ }
 {
-    if long_as(delivery, s, g, Shape::U) {
+    if long_as(delivery, n, Shape::U) {
         return Shaped::Of(Shape::U);
     }
-    if long_as(delivery, s, g, Shape::UL) {
-        return Shaped::Of(lowers_or_means(delivery, s, g));
+    if long_as(delivery, n, Shape::UL) {
+        return Shaped::Of(lowers_or_means(delivery, n));
     }
-    if long_as(delivery, s, g, Shape::UR) {
+    if long_as(delivery, n, Shape::UR) {
         return Shaped::Of(Shape::UR);
     }
-    if long_as(delivery, s, g, Shape::ULR) {
+    if long_as(delivery, n, Shape::ULR) {
         return Shaped::Of(Shape::ULR);
     }
     Shaped::Unknown

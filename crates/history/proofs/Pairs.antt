@@ -15,7 +15,7 @@ use Rattle.ppda.specs.Equations.{Vector, RowVector, entries, rows}
 use Rattle.model.specs.Records.{statesOf, symbolsOf}
 use Rattle.model.specs.Verdict.{modelVerdict}
 use Rattle.model.proofs.Accepted.{model-accepted}
-use Rattle.delivery.specs.Records.{byteOf, valueOf}
+use Rattle.delivery.specs.Records.{byteOf, valueAt}
 use Rattle.delivery.specs.declared.shape.Shaped.the-variants.{Of}
 use Rattle.delivery.specs.Shapes.{hasLowers, hasMeans, shapeOf}
 use Rattle.ppda.specs.Order.{entriesIn}
@@ -179,7 +179,7 @@ module _ (b d : List ℕ) (is : verdict b d ≡ Accepted) where
 
   -- The uppers in the register are the values of the file's first records.
   uppers-held : (i : ℕ) → i < entriesIn (statesOf b) (symbolsOf b)
-      → getD (listed (statesOf b) (symbolsOf b) (uppersOf (statesOf b) (symbolsOf b) d)) i 0 ≡ valueOf d i
+      → getD (listed (statesOf b) (symbolsOf b) (uppersOf (statesOf b) (symbolsOf b) d)) i 0 ≡ valueAt d i
   unfolding uppersOf
   uppers-held = at-numbers _ (listed-same b model-is (uppersOf (statesOf b) (symbolsOf b) d))
 
@@ -188,8 +188,8 @@ module _ (b d : List ℕ) (is : verdict b d ≡ Accepted) where
 -- The same first V records are the same uppers: kind, p, Z and q are those due there in both files.
 module _ (b e d : List ℕ) (former : verdict b e ≡ Accepted) (is : verdict b d ≡ Accepted) where
   bytes-same : (i : ℕ) → i < entriesIn (statesOf b) (symbolsOf b)
-      → (byteOf e i 0 ≡ byteOf d i 0)
-      × ((byteOf e i 1 ≡ byteOf d i 1) × ((byteOf e i 2 ≡ byteOf d i 2) × (byteOf e i 3 ≡ byteOf d i 3)))
+      → (kindAt e i ≡ kindAt d i)
+      × ((stateAt e i ≡ stateAt d i) × ((symbolAt e i ≡ symbolAt d i) × (exitAt e i ≡ exitAt d i)))
   bytes-same =
       at-numbers _ (λ p z q hp hz hq.
       let a = filed b e former .delivery .uppers .due p z q hp hz hq in
@@ -197,9 +197,9 @@ module _ (b e d : List ℕ) (former : verdict b e ≡ Accepted) (is : verdict b 
       (a .kind ∙ sym (c .kind), (a .state ∙ sym (c .state), (a .symbol ∙ sym (c .symbol), a .exit ∙ sym (c .exit)))))
 
   record-same : (i : ℕ) → (sameRecord e d i ≡ true)
-      ↔ ((byteOf e i 0 ≡ byteOf d i 0)
-      × ((byteOf e i 1 ≡ byteOf d i 1)
-      × ((byteOf e i 2 ≡ byteOf d i 2) × ((byteOf e i 3 ≡ byteOf d i 3) × (valueOf e i ≡ valueOf d i)))))
+      ↔ ((kindAt e i ≡ kindAt d i)
+      × ((stateAt e i ≡ stateAt d i)
+      × ((symbolAt e i ≡ symbolAt d i) × ((exitAt e i ≡ exitAt d i) × (valueAt e i ≡ valueAt d i)))))
   record-same i =
       both _ _ (eq-exactly _ _) (both _ _ (eq-exactly _ _) (both _ _ (eq-exactly _ _) (both _ _ (eq-exactly _ _) (eq-exactly _ _))))
 

@@ -13,7 +13,7 @@ use Rattle.model.specs.Verdict.{modelVerdict}
 use Rattle.delivery.specs.declared.shape.Shape.{Shape}
 use Rattle.delivery.specs.declared.shape.Shaped.{Shaped}
 use Rattle.delivery.specs.declared.shape.Shaped.the-variants.{Of, Unknown}
-use Rattle.delivery.specs.Records.{byteOf, valueOf}
+use Rattle.delivery.specs.Records.{byteOf, valueAt}
 use Rattle.delivery.specs.Shapes.{hasLowers, hasMeans, shapeOf}
 use Rattle.ppda.specs.Order.{entriesIn}
 use Rattle.delivery.specs.Numbers.{uppersOf, lowersOf, meansOf}
@@ -104,9 +104,9 @@ byVerdict (Refused x i k) r = refused (numberOf x) i k
 -- Record i is the same in two deliveries: kind, p, Z, q and value.
 abbrev pub sameRecord : List ℕ → List ℕ → ℕ → Bool
 sameRecord d e i =
-    eqb (byteOf d i 0) (byteOf e i 0)
-    && (eqb (byteOf d i 1) (byteOf e i 1)
-    && (eqb (byteOf d i 2) (byteOf e i 2) && (eqb (byteOf d i 3) (byteOf e i 3) && eqb (valueOf d i) (valueOf e i))))
+    eqb (kindAt d i) (kindAt e i)
+    && (eqb (stateAt d i) (stateAt e i)
+    && (eqb (symbolAt d i) (symbolAt e i) && (eqb (exitAt d i) (exitAt e i) && eqb (valueAt d i) (valueAt e i))))
 
 -- Two deliveries for the model b have the same U block: records 0 to V − 1.
 unfoldable pub sameUppers : List ℕ → List ℕ → List ℕ → Bool

@@ -13,7 +13,7 @@ use Rattle.ppda.specs.Margin.{share, shareAt}
 use Rattle.ppda.proofs.Sums.{leastTo-le-top, leastTo-le-term, leastTo-greatest}
 use Rattle.ppda.proofs.Places.{row-of, row-at, row-below}
 use Rattle.model.specs.Rules.{rulesOf}
-use Rattle.delivery.specs.Records.{valueOf}
+use Rattle.delivery.specs.Records.{valueAt}
 use Rattle.delivery.specs.Numbers.{uppersOf}
 use Rattle.equations.specs.Exits.{bitOf}
 use Rattle.inequalities.specs.Shares.{StrictAt, Strict, shareOf, leastShare}
@@ -38,7 +38,7 @@ share-live (suc a) u y h = refl
 
 -- The mark and the numbers read at exit q of row number k, which is (k / g, k % g): the condition there, and the part in the margin.
 module _ (b : List ℕ) (s g : ℕ) (a u : List ℕ) (k q : ℕ) {m n y : ℕ} (em : m ≡ bitOf (getD a k 0) q)
-    (en : n ≡ valueOf u (k * s + q)) (ey : y ≡ f (rulesOf b) s (2 ^ 20) (uppersOf s g u) (k / g) (k % g) q) where
+    (en : n ≡ valueAt u (k * s + q)) (ey : y ≡ f (rulesOf b) s (2 ^ 20) (uppersOf s g u) (k / g) (k % g) q) where
   pub strict-found : Strict b s g a u → 0 < g → k < s * g → q < s → StrictAt m n y
   unfolding uppersOf
   strict-found strict some hk hq =

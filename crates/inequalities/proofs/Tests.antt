@@ -22,7 +22,7 @@ use Rattle.outcome.proofs.Differences.{difference-exact, shortfall-fits}
 use Rattle.ppda.specs.Equations.{f, meanSide}
 use Rattle.ppda.proofs.Places.{row-below, entries-most}
 use Rattle.model.specs.Rules.{rulesOf}
-use Rattle.delivery.specs.Records.{valueOf}
+use Rattle.delivery.specs.Records.{valueAt}
 use Rattle.delivery.specs.Numbers.{uppersOf, rowsOfBlock}
 use Rattle.equations.specs.Exits.{bitOf}
 use Rattle.inequalities.specs.declared.sides.Side.{Side}
@@ -96,7 +96,7 @@ entry-within s g k q hs hg hk hq = let here = row-below (s * g) s k q hk hq in (
 
 -- The mark and the numbers read at an exit make its tests.
 module _ (s g : ℕ) (a d : List ℕ) (from k q : ℕ) {x n : ℕ} {o : Outcome} (ex : x ≡ bitOf (getD a k 0) q)
-    (en : n ≡ valueOf d (k * s + q)) where
+    (en : n ≡ valueAt d (k * s + q)) where
   pub dead-found : o ≡ first (deadTest x n (from + (k * s + q)) ∷ []) → o ≡ first (deadAt s g a d from (k / g) (k % g) q)
   unfolding uppersOf
   dead-found eo = rw (eo, ex, en, div-add-mod' k g)
@@ -107,7 +107,7 @@ module _ (s g : ℕ) (a d : List ℕ) (from k q : ℕ) {x n : ℕ} {o : Outcome}
   side-found side b ey eo = rw (eo, ex, en, ey, div-add-mod' k g)
 
 -- The numbers read at a row make its test.
-pub mean-found : (b : List ℕ) (s g : ℕ) (u r : List ℕ) (from k : ℕ) {n y : ℕ} {o : Outcome} → n ≡ valueOf r k
+pub mean-found : (b : List ℕ) (s g : ℕ) (u r : List ℕ) (from k : ℕ) {n y : ℕ} {o : Outcome} → n ≡ valueAt r k
     → y ≡ meanSide (rulesOf b) s (2 ^ 20) (2 ^ 8) (uppersOf s g u) (rowsOfBlock g r) (k / g) (k % g)
     → o ≡ first (meanTest n y (from + k) ∷ []) → o ≡ first (meanAt b s g u r from (k / g) (k % g))
 mean-found b s g u r from k en ey eo = rw (eo, en, ey, div-add-mod' k g)

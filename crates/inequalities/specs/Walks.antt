@@ -5,7 +5,7 @@ use mathlib.Core.List.{List, [], _∷_}
 use Rattle.outcome.specs.Tests.{Test}
 use Rattle.ppda.specs.Equations.{f, meanSide}
 use Rattle.model.specs.Rules.{rulesOf}
-use Rattle.delivery.specs.Records.{valueOf}
+use Rattle.delivery.specs.Records.{valueAt}
 use Rattle.delivery.specs.Numbers.{uppersOf, rowsOfBlock}
 use Rattle.ppda.specs.Order.{entryAt, rowAt}
 use Rattle.equations.specs.Exits.{exitMarks}
@@ -19,7 +19,7 @@ deadAt s g a d from p z q = deadTest (exitMarks g a p z q) (uppersOf s g d p z q
 
 -- Entry number e of the lowers of the block l beside the uppers of u.
 abbrev pub belowAt : List ℕ → List ℕ → ℕ → ℕ → List Test
-belowAt l u from e = belowTest (valueOf l e) (valueOf u e) (from + e) ∷ []
+belowAt l u from e = belowTest (valueAt l e) (valueAt u e) (from + e) ∷ []
 
 -- The test of one entry with the mark a and the number v, whose f is y, for each side of the equations.
 abbrev pub sideTest : Side → ℕ → ℕ → ℕ → ℕ → Test

@@ -10,7 +10,7 @@ use Rattle.outcome.specs.declared.Outcome.the-variants.{Accepted}
 use Rattle.ppda.specs.Equations.{Vector, f}
 use Rattle.ppda.proofs.Places.{row-at}
 use Rattle.model.specs.Rules.{rulesOf}
-use Rattle.delivery.specs.Records.{valueOf}
+use Rattle.delivery.specs.Records.{valueAt}
 use Rattle.delivery.specs.declared.shape.Shaped.the-variants.{Of}
 use Rattle.delivery.specs.Shapes.{shapeOf}
 use Rattle.delivery.specs.Numbers.{uppersOf}
@@ -31,7 +31,7 @@ use Rattle.report.specs.Walks.{Standing}
 -- ---- one entry, by its row's number
 
 module _ {b d starts : List ℕ} {s g : ℕ} (standing : Standing b d s g starts) (p z q : ℕ) {row y v : ℕ} (is-row : row ≡ p * g + z)
-    (is-y : y ≡ f (rulesOf b) s (2 ^ 20) (uppersOf s g d) (row / g) (row % g) q) (is-v : v ≡ valueOf d (row * s + q)) where
+    (is-y : y ≡ f (rulesOf b) s (2 ^ 20) (uppersOf s g d) (row / g) (row % g) q) (is-v : v ≡ valueAt d (row * s + q)) where
   pub upper-most : v ≤ 2097152
   upper-most = rw is-v (standing .within .most (row * s + q))
 

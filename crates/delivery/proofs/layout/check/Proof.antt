@@ -16,16 +16,16 @@ use Rattle.delivery.proofs.layout.check.Tie as tie
 
 -- What is found first is the outcome of the uppers.
 uppers-found : (c : tie.After-check-block) → let args = c .before .before .args in
-    c .check-block .result ≡ first (upperRecords (args .s) (args .g) (now (args .delivery)))
+    c .check-block .result ≡ first (upperRecords (args .n .states) (args .n .symbols) (now (args .delivery)))
 uppers-found c = c .check-block .ensures ∙ ap first (sym (uppers-walked _ _ _))
 
 -- Past the first test the uppers have passed, and past the second the lowers.
 uppers-passed : (c : tie.After-enum-told2) → let args = c .before .before .before .before .args in
-    first (upperRecords (args .s) (args .g) (now (args .delivery))) ≡ Accepted
+    first (upperRecords (args .n .states) (args .n .symbols) (now (args .delivery))) ≡ Accepted
 uppers-passed c = sym (uppers-found (c .before .before)) ∙ c .enum-told2 .given .1
 
 lowers-passed : (c : tie.After-enum-told4) → let args = c .before .before .before .before .before .before .before .args in
-    first (onlyIf (hasLowers (args .shape)) (lowerRecords (args .s) (args .g) (now (args .delivery)))) ≡ Accepted
+    first (onlyIf (hasLowers (args .shape)) (lowerRecords (args .n .states) (args .n .symbols) (now (args .delivery)))) ≡ Accepted
 lowers-passed c = sym (c .before .before .check-lowers .ensures) ∙ c .enum-told4 .given .1
 
 -- The mean steps stand.
@@ -35,7 +35,7 @@ has c = sym (c .before .has-means .ensures) ∙ c .if1 .taken
 -- What is found last is their outcome.
 means-found : (c : tie.After-check-block2)
     → let args = c .before .before .before .before .before .before .before .before .before .before .before .args in
-    c .check-block2 .result ≡ first (meanRecords (args .s) (args .g) (args .shape) (now (args .delivery)))
+    c .check-block2 .result ≡ first (meanRecords (args .n .states) (args .n .symbols) (args .shape) (now (args .delivery)))
 means-found c =
     c .check-block2 .ensures
     ∙ ap first (sym (means-walked _ _ _ _ (c .before .means-from .ensures .0)))
@@ -43,13 +43,8 @@ means-found c =
 check-block-requires : tie.Need-check-block-requires
 check-block-requires c κs =
     let args = c .before .args in
-    let pre = c .before .pre in (
-      omega (arith, uppers-fit (args .s) (args .g) (now (args .delivery)) (args .shape) (pre .0)),
-      pre .2,
-      pre .4,
-      pre .2,
-      omega arith,
-    )
+    let pre = c .before .pre in
+    (pre .fits, omega (arith, uppers-fit (args .n .states) (args .n .symbols) (now (args .delivery)) (args .shape) (pre .of)))
 
 enum-told : tie.Need-enum-told
 enum-told c = search needs
@@ -87,13 +82,7 @@ check-block-requires-2 : tie.Need-check-block-requires-2
 check-block-requires-2 c κs =
     let start = c .before .before .before .before .before .before .before .before .before .before in
     let args = start .args in
-    let pre = start .pre in (
-      omega (arith, means-fit (args .s) (args .g) (now (args .delivery)) (args .shape) (pre .0) (has (c .before))),
-      pre .2,
-      pre .4,
-      omega arith,
-      c .means-from .ensures .1,
-    )
+    (start .pre .fits, omega (arith, means-fit (args .n .states) (args .n .symbols) (now (args .delivery)) (args .shape) (start .pre .of) (has (c .before))))
 
 returns-3 : tie.Need-returns-3
 returns-3 c =

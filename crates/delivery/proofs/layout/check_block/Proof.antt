@@ -1,6 +1,6 @@
 -- `check_block`: the loop returns at the first state with a record that is refused, after every state before it has passed.
 use Prim.Native.Nat.{_+_, _*_, _-_, _≤_}
-use native.Mathlib.Nat.{mul-le-mul, mul-le-mul-right}
+use native.Mathlib.Nat.{mul-le-mul-right}
 use native.Mathlib.Omega.{arith}
 use mathlib.Core.Path.{_≡_, sym, _∙_}
 use borrow.Author.Needs.{needs}
@@ -17,32 +17,31 @@ Inv-loop delivery block from exits s g p₀ p = (p ≤ s) × (first (each p (sta
 abbrev μ-loop : tie.MeasureT-loop
 μ-loop delivery block from exits s g p₀ p = s - p
 
--- The rows of the states before p are at most 128, and their records at most 1,024.
-few-rows : (c : tie.In-loop Inv-loop μ-loop) → c .before .loop .p * c .before .before .before .args .g ≤ 128
-few-rows c = mul-le-mul {n₂ = 8} {m₂ = 16} (omega arith) (omega arith)
+-- The rows of the states before p are among those of the model.
+few-rows : (c : tie.In-loop Inv-loop μ-loop)
+    → let n = c .before .before .before .args .n in c .before .loop .p * n .symbols ≤ n .states * n .symbols
+few-rows c = mul-le-mul-right _ (omega arith)
 
-few : (c : tie.In-loop Inv-loop μ-loop) → let args = c .before .before .before .args in c .before .loop .p * args .g * args .exits ≤ 1024
-few c = mul-le-mul {n₂ = 128} {m₂ = 8} (few-rows c) (omega arith)
-
--- The records of state p and of those before it are among those of the block.
-states-so-far : (c : tie.In-loop Inv-loop μ-loop) → let args = c .before .before .before .args in
-    (c .before .loop .p + 1) * args .g * args .exits ≤ args .s * args .g * args .exits
+-- The records of state p and of those before it are among those of the block, which the file has.
+states-so-far : (c : tie.In-loop Inv-loop μ-loop)
+    → let args = c .before .before .before .args in
+    (c .before .loop .p + 1) * args .n .symbols * args .exits ≤ args .n .states * args .n .symbols * args .exits
 states-so-far c = mul-le-mul-right _ (mul-le-mul-right _ (omega arith))
 
 loop-holds : tie.Need-loop-holds Inv-loop μ-loop
 loop-holds c = (search needs, each-none _)
 
 mul-check-state : tie.Need-mul-check-state Inv-loop μ-loop
-mul-check-state c = omega (arith, few-rows c)
+mul-check-state c = omega (arith, few-rows c, c .before .before .before .pre .0 .few-rows)
 
 mul-check-state-2 : tie.Need-mul-check-state-2 Inv-loop μ-loop
-mul-check-state-2 c = omega (arith, few c)
+mul-check-state-2 c = omega (arith, states-so-far c)
 
 add-check-state : tie.Need-add-check-state Inv-loop μ-loop
-add-check-state c = omega (arith, few c)
+add-check-state c = omega (arith, states-so-far c)
 
 check-state-requires : tie.Need-check-state-requires Inv-loop μ-loop
-check-state-requires c κs = (omega (arith, states-so-far c), search needs, search needs, omega (arith, few c))
+check-state-requires c κs = omega (arith, states-so-far c)
 
 enum-told : tie.Need-enum-told Inv-loop μ-loop
 enum-told c = search needs

@@ -23,13 +23,8 @@ entries-requires c κs = search needs
 check-block-requires : tie.Need-check-block-requires
 check-block-requires c κs =
     let args = c .before .before .before .before .args in
-    let pre = c .before .before .before .before .pre in (
-      omega (arith, lowers-fit (args .s) (args .g) (now (args .delivery)) (args .shape) (pre .0) (has (c .before))),
-      pre .2,
-      pre .4,
-      pre .2,
-      omega arith,
-    )
+    let pre = c .before .before .before .before .pre in
+    (pre .fits, omega (arith, lowers-fit (args .n .states) (args .n .symbols) (now (args .delivery)) (args .shape) (pre .of) (has (c .before))))
 
 returns : tie.Need-returns
 returns c =

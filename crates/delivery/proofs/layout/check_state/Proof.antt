@@ -1,6 +1,6 @@
 -- `check_state`: the loop returns at the first row that is refused, after every row before it has passed.
 use Prim.Native.Nat.{_+_, _*_, _-_, _≤_}
-use native.Mathlib.Nat.{mul-le-mul, mul-le-mul-right}
+use native.Mathlib.Nat.{mul-le-mul-right}
 use native.Mathlib.Omega.{arith}
 use mathlib.Core.Path.{_≡_, sym, _∙_}
 use borrow.Author.Needs.{needs}
@@ -17,22 +17,19 @@ Inv-loop delivery block at exits g p z₀ z = (z ≤ g) × (first (each z (rowOf
 abbrev μ-loop : tie.MeasureT-loop
 μ-loop delivery block at exits g p z₀ z = g - z
 
--- The records of row z and of those before it are among those of the state, which are at most 128.
+-- The records of row z and of those before it are among those of the state, which the file has.
 rows-so-far : (c : tie.In-loop Inv-loop μ-loop) → let args = c .before .before .before .args in
     (c .before .loop .z + 1) * args .exits ≤ args .g * args .exits
 rows-so-far c = mul-le-mul-right _ (omega arith)
-
-few : (c : tie.In-loop Inv-loop μ-loop) → c .before .loop .z * c .before .before .before .args .exits ≤ 128
-few c = mul-le-mul {n₂ = 16} {m₂ = 8} (omega arith) (omega arith)
 
 loop-holds : tie.Need-loop-holds Inv-loop μ-loop
 loop-holds c = (search needs, each-none _)
 
 mul-check-row : tie.Need-mul-check-row Inv-loop μ-loop
-mul-check-row c = omega (arith, few c)
+mul-check-row c = omega (arith, rows-so-far c)
 
 add-check-row : tie.Need-add-check-row Inv-loop μ-loop
-add-check-row c = omega (arith, few c)
+add-check-row c = omega (arith, rows-so-far c)
 
 check-row-requires : tie.Need-check-row-requires Inv-loop μ-loop
 check-row-requires c κs = omega (arith, rows-so-far c)

@@ -16,8 +16,8 @@ abbrev μ-loop : tie.MeasureT-loop
 loop-holds : tie.Need-loop-holds Inv-loop μ-loop
 loop-holds c = (search needs, values-none _)
 
-value-of-requires : tie.Need-value-of-requires Inv-loop μ-loop
-value-of-requires c κs = search needs
+value-at-requires : tie.Need-value-at-requires Inv-loop μ-loop
+value-at-requires c κs = search needs
 
 cast-values : tie.Need-cast-values Inv-loop μ-loop
 cast-values c = search needs
@@ -37,7 +37,7 @@ loop-less c = search needs
 loop-again : tie.Need-loop-again Inv-loop μ-loop
 loop-again c =
     let inv = c .before .before .loop .inv in
-    (omega arith, values-step _ (inv .1) (omega arith) (c .value-of .ensures .0))
+    (omega arith, values-step _ (inv .1) (omega arith) (c .value-at .ensures .0))
 
 returns : tie.Need-returns Inv-loop μ-loop
 returns c = values-end (c .before .loop .inv .1) (omega arith)
@@ -49,7 +49,7 @@ values-spec =
     Inv-loop
     μ-loop
     loop-holds
-    value-of-requires
+    value-at-requires
     cast-values
     mul-values
     array-write-values

@@ -4,8 +4,8 @@ use borrow.Author.Needs.{needs}
 use Rattle.delivery.proofs.record.in_range.Statement.{statement}
 use Rattle.delivery.proofs.record.in_range.Tie as tie
 
-value-of-requires : tie.Need-value-of-requires
-value-of-requires c κs = search needs
+value-at-requires : tie.Need-value-at-requires
+value-at-requires c κs = search needs
 
 least-requires : tie.Need-least-requires
 least-requires c κs = search needs
@@ -18,4 +18,4 @@ unfolding inRange
 returns c = cc
 
 pub in-range-spec : {M : Type 1} → statement M
-in-range-spec = tie.close (tie.spec value-of-requires least-requires most-requires returns)
+in-range-spec = tie.close (tie.spec value-at-requires least-requires most-requires returns)

@@ -11,16 +11,16 @@ use Rattle.delivery.proofs.shape.shape_of.Statement.{statement}
 use Rattle.delivery.proofs.shape.shape_of.Tie as tie
 
 -- What each test says of the file's length.
-not-U : (c : tie.Else1) → let args = c .before .before .before .args in longAs (args .s) (args .g) U (now (args .delivery)) ≡ false
+not-U : (c : tie.Else1) → let args = c .before .before .before .args in longAs (args .n .states) (args .n .symbols) U (now (args .delivery)) ≡ false
 not-U c = sym (c .before .long-as .ensures) ∙ c .if1 .left
 
-as-UL : (c : tie.Then2) → let args = c .before .before .before .before .before .args in longAs (args .s) (args .g) UL (now (args .delivery)) ≡ true
+as-UL : (c : tie.Then2) → let args = c .before .before .before .before .before .args in longAs (args .n .states) (args .n .symbols) UL (now (args .delivery)) ≡ true
 as-UL c = sym (c .before .long-as2 .ensures) ∙ c .if2 .taken
 
-not-UL : (c : tie.Else2) → let args = c .before .before .before .before .before .args in longAs (args .s) (args .g) UL (now (args .delivery)) ≡ false
+not-UL : (c : tie.Else2) → let args = c .before .before .before .before .before .args in longAs (args .n .states) (args .n .symbols) UL (now (args .delivery)) ≡ false
 not-UL c = sym (c .before .long-as2 .ensures) ∙ c .if2 .left
 
-not-UR : (c : tie.Else3) → let args = c .before .before .before .before .before .before .before .args in longAs (args .s) (args .g) UR (now (args .delivery)) ≡ false
+not-UR : (c : tie.Else3) → let args = c .before .before .before .before .before .before .before .args in longAs (args .n .states) (args .n .symbols) UR (now (args .delivery)) ≡ false
 not-UR c = sym (c .before .long-as3 .ensures) ∙ c .if3 .left
 
 long-as-requires : tie.Need-long-as-requires
@@ -35,7 +35,7 @@ long-as-requires-2 c κs = search needs
 lowers-or-means-requires : tie.Need-lowers-or-means-requires
 lowers-or-means-requires c κs =
     let pre = c .before .before .before .before .before .pre in
-    (UL-has-more _ _ _ (pre .0) (pre .2) (as-UL c), pre .1, pre .3)
+    (pre, UL-has-more _ _ _ (pre .some-states) (pre .some-symbols) (as-UL c))
 
 returns-2 : tie.Need-returns-2
 returns-2 c =
