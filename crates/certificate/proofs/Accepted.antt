@@ -35,12 +35,12 @@ use Rattle.delivery.specs.declared.shape.Shaped.{Shaped}
 use Rattle.delivery.specs.declared.shape.Shaped.the-variants.{Of, Unknown}
 use Rattle.delivery.specs.Records.{byteOf, valueAt, kindOf, leastOf, mostOf}
 use Rattle.delivery.specs.Shapes.{hasLowers, hasMeans, meansFrom, shapeOf}
-use Rattle.ppda.specs.Order.{entriesIn, entryAt, rowAt}
+use Rattle.ppda.specs.Order.{entriesIn, entryAt, rowAt, AtEntries, AtRows}
 use Rattle.delivery.specs.Numbers.{uppersOf, lowersOf, meansOf}
 use Rattle.delivery.specs.Layout.{eachEntry, eachRow, onlyIf, isDue, inRange, recordTests, upperRecords, lowerRecords, meanRecords, layoutTests}
 use Rattle.inequalities.specs.Inequalities.{deadTest, upperTest, belowTest, lowerTest, meanTest, deadTests, upperTests, belowTests, lowerTests, meanTests}
 use Rattle.certificate.specs.Verdict.{numberTests, shapedTests, deliveryTests, verdict}
-use Rattle.certificate.specs.Accepted.{RecordDue, AtEntries, AtRows, UppersRight, LowersRight, MeansRight, DeliveryFile, Filed}
+use Rattle.certificate.specs.Accepted.{RecordDue, UppersRight, LowersRight, MeansRight, DeliveryFile, Filed}
 
 -- ---- lists of tests
 

@@ -14,7 +14,7 @@ use Rattle.words.specs.Words.{wordAt}
 use Rattle.outcome.specs.Tests.{Test, each}
 use Rattle.outcome.proofs.Tests.{each-cong}
 use Rattle.ppda.specs.Rules.{Rule, IsModel}
-use Rattle.ppda.specs.Equations.{Vector, RowVector, entries, rows, f}
+use Rattle.ppda.specs.Equations.{Vector, RowVector, entries, rows, f, SameRows, Same}
 use Rattle.model.specs.Rules.{rulesOf}
 use Rattle.delivery.specs.Records.{valueAt}
 use Rattle.ppda.specs.Order.{entriesIn, entryAt, rowAt}
@@ -22,10 +22,9 @@ use Rattle.delivery.specs.Numbers.{uppersOf, rowsOfBlock}
 use Rattle.delivery.specs.Layout.{eachEntry, eachRow}
 use Rattle.delivery.specs.Walks.{Values, Within}
 use Rattle.delivery.proofs.Walks.{entries-by-number}
-use Rattle.equations.specs.Exits.{exitMarks}
-use Rattle.equations.specs.Held.{Same}
+use Rattle.live.specs.Exits.{exitMarks}
 use Rattle.ppda.proofs.Places.{row-below, entry-below}
-use Rattle.equations.proofs.Vectors.{SameRows, f-same, mean-side-same}
+use Rattle.ppda.proofs.Vectors.{f-same, mean-side-same}
 use Rattle.inequalities.specs.declared.sides.Side.the-variants.{Upper, StrictUpper, Lower}
 use Rattle.inequalities.specs.Inequalities.{deadTest, upperTest, belowTest, lowerTest, meanTest, deadTests, upperTests, belowTests, lowerTests, meanTests}
 use Rattle.inequalities.specs.Walks.{deadAt, belowAt, sideTest, sideAt, meanAt}

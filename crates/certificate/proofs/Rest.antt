@@ -10,7 +10,7 @@ use lib.Seq.{drop-drop}
 use Rattle.outcome.specs.declared.Outcome.the-variants.{Accepted}
 use Rattle.outcome.specs.Tests.{first}
 use Rattle.ppda.specs.Rules.{IsModel}
-use Rattle.ppda.specs.Equations.{Vector}
+use Rattle.ppda.specs.Equations.{Vector, SameRows, Same}
 use Rattle.ppda.specs.Live.{alive}
 use Rattle.model.specs.Rules.{rulesOf}
 use Rattle.ppda.proofs.Places.{row-split}
@@ -18,17 +18,14 @@ use Rattle.delivery.specs.declared.shape.Shape.{Shape}
 use Rattle.delivery.specs.declared.shape.Shaped.the-variants.{Of}
 use Rattle.delivery.specs.Records.{valueAt}
 use Rattle.delivery.specs.Shapes.{hasLowers, hasMeans, meansFrom, recordsIn, shapeOf}
-use Rattle.ppda.specs.Order.{entriesIn, rowsIn, entryAt, rowAt}
+use Rattle.ppda.specs.Order.{entriesIn, rowsIn, entryAt, rowAt, AtEntries, AtRows}
 use Rattle.delivery.specs.Numbers.{uppersOf, lowersOf, meansOf, rowsOfBlock}
 use Rattle.delivery.specs.Layout.{layoutTests}
 use Rattle.delivery.specs.Walks.{Within}
 use Rattle.delivery.proofs.Shapes.{shape-long, uppers-fit, lowers-fit}
 use Rattle.delivery.proofs.Walks.{rest-value}
-use Rattle.equations.specs.Held.{Same}
-use Rattle.equations.proofs.Vectors.{SameRows}
 use Rattle.inequalities.specs.Inequalities.{deadTests}
 use Rattle.certificate.specs.Verdict.{numberTests}
-use Rattle.certificate.specs.Accepted.{AtEntries, AtRows}
 use Rattle.certificate.specs.Rest.{RestRead, meansBlock, restMeans, restTests}
 use Rattle.certificate.proofs.Accepted.{layout-right}
 use Rattle.certificate.proofs.Blocks.{itself, dead-same, below-same, upper-same, lower-same, mean-same, ends-within, part-within}

@@ -6,7 +6,7 @@ use mathlib.Core.List.{List}
 use mathlib.Core.Path.{_≡_, refl, ap, ap₂, _∙_}
 use Rattle.outcome.specs.declared.Outcome.the-variants.{Accepted}
 use Rattle.ppda.specs.Sums.{leastTo}
-use Rattle.ppda.specs.Equations.{f}
+use Rattle.ppda.specs.Equations.{f, Same}
 use Rattle.ppda.specs.Live.{alive}
 use Rattle.ppda.specs.Margin.{shareAt, margin}
 use Rattle.ppda.proofs.Marks.{alive-is-bit}
@@ -15,11 +15,10 @@ use Rattle.delivery.specs.declared.shape.Shape.{Shape}
 use Rattle.delivery.specs.declared.shape.Shaped.the-variants.{Of}
 use Rattle.delivery.specs.Shapes.{hasLowers, shapeOf}
 use Rattle.delivery.specs.Numbers.{uppersOf}
-use Rattle.equations.specs.Exits.{exitMarks}
-use Rattle.equations.specs.Held.{Same}
+use Rattle.live.specs.Exits.{exitMarks}
 use Rattle.model.specs.Accepted.{Sized}
-use Rattle.equations.proofs.Ranges.{sized-model}
-use Rattle.equations.proofs.Vectors.{f-same}
+use Rattle.model.proofs.Accepted.{sized-model}
+use Rattle.ppda.proofs.Vectors.{f-same}
 use Rattle.inequalities.specs.Shares.{Strict, leastShare}
 use Rattle.certificate.specs.Verdict.{verdict}
 use Rattle.certificate.specs.Accepted.{LowersRight}

@@ -26,10 +26,10 @@ use Rattle.ppda.specs.Order.{entriesIn, rowsIn}
 use Rattle.delivery.specs.Numbers.{uppersOf}
 use Rattle.delivery.specs.Layout.{eachEntry, eachRow, onlyIf, layoutTests}
 use Rattle.delivery.specs.Walks.{Within}
-use Rattle.equations.specs.Exits.{exitMarks}
-use Rattle.equations.specs.Held.{ExitsOf}
+use Rattle.live.specs.Exits.{ExitsOf, exitMarks}
 use Rattle.model.specs.Accepted.{Sized}
-use Rattle.equations.proofs.Ranges.{few-states, few-symbols, some-symbols, sized-model}
+use Rattle.rows.proofs.Ranges.{few-states, few-symbols, some-symbols}
+use Rattle.model.proofs.Accepted.{sized-model}
 use Rattle.inequalities.specs.Inequalities.{deadTests, upperTests, belowTests, lowerTests}
 use Rattle.inequalities.specs.declared.sides.Side.the-variants.{Upper, StrictUpper, Lower}
 use Rattle.inequalities.specs.Walks.{deadAt, belowAt, sideAt, meanAt}

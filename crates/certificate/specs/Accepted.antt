@@ -15,7 +15,7 @@ use Rattle.delivery.specs.declared.shape.Shape.{Shape}
 use Rattle.delivery.specs.declared.shape.Shaped.the-variants.{Of}
 use Rattle.delivery.specs.Records.{byteOf, valueAt, kindOf, leastOf, mostOf}
 use Rattle.delivery.specs.Shapes.{hasLowers, hasMeans, meansFrom, shapeOf}
-use Rattle.ppda.specs.Order.{entriesIn, entryAt, rowAt}
+use Rattle.ppda.specs.Order.{entriesIn, rowAt, entryAt, AtRows, AtEntries}
 use Rattle.delivery.specs.Numbers.{uppersOf, lowersOf, meansOf}
 
 -- Record i is the one due there (21), with a value in range (22).
@@ -26,13 +26,6 @@ pub record RecordDue (d : List ℕ) (i : ℕ) (k : Block) (p z q : ℕ) : Type 0
   pub exit : exitAt d i ≡ q
   pub least : leastOf k ≤ valueAt d i
   pub most : valueAt d i ≤ mostOf k
-
--- A statement about every entry, and about every row.
-abbrev pub AtEntries : ℕ → ℕ → (ℕ → ℕ → ℕ → Type 0) → Type 0
-AtEntries s g P = (p z q : ℕ) → p < s → z < g → q < s → P p z q
-
-abbrev pub AtRows : ℕ → ℕ → (ℕ → ℕ → Type 0) → Type 0
-AtRows s g P = (p z : ℕ) → p < s → z < g → P p z
 
 -- The uppers: each record is due, a dead entry is 0 (23), and u ≥ f(u) (24).
 pub record UppersRight (b : List ℕ) (s g : ℕ) (d : List ℕ) : Type 0 where

@@ -11,7 +11,7 @@ use Rattle.ppda.specs.Equations.{through, stepsThrough}
 use Rattle.delivery.specs.Numbers.{uppersOf, rowsOfBlock}
 use Rattle.delivery.specs.Walks.{Within}
 use Rattle.equations.specs.Products.{product, stepsProduct}
-use Rattle.equations.proofs.Sums.{sum-most}
+use Rattle.rows.proofs.Sums.{sum-most}
 
 bit-most : (t : Bool) → bit t ≤ 1
 bit-most true = le-refl 1

@@ -2,7 +2,8 @@
 use Prim.Native.Nat.{ℕ, _*_}
 use mathlib.Core.List.{List}
 use Rattle.delivery.specs.Numbers.{uppersOf, rowsOfBlock}
-use Rattle.equations.specs.Exits.{bitOf, exitMarks}
+use Rattle.live.specs.Exits.{bitOf, exitMarks}
+use Rattle.live.specs.Rounds.{markProduct}
 
 -- One product of f at a rule that pushes two, for the numbers of the block d: v(r, y, t) × v(t, x, q).
 abbrev pub product : ℕ → ℕ → List ℕ → ℕ → ℕ → ℕ → ℕ → ℕ → ℕ

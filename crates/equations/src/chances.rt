@@ -13,7 +13,7 @@ ghost use Rattle.model.specs.Records.{recordsOf, target, pushes, top, under};
 ghost use Rattle.model.specs.Rules.{pushOf, rulesOf};
 ghost use Rattle.delivery.specs.Numbers.{uppersOf};
 ghost use Rattle.delivery.specs.Walks.{Within};
-ghost use Rattle.equations.specs.Held.{Starts};
+ghost use Rattle.rows.specs.Starts.{Starts};
 ghost use Rattle.model.specs.Accepted.{Sized};
 ghost use Rattle.equations.specs.Products.{product};
 

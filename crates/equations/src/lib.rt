@@ -13,7 +13,7 @@ pub mod steps; // steps.rt: the right side of the mean steps' inequality
 
 ghost use Rattle.model.specs.Records.{statesOf, symbolsOf};
 ghost use Rattle.equations.specs.Held.{Marks};
-ghost use Rattle.equations.specs.Shown.{liveMark};
+ghost use Rattle.live.specs.Shown.{liveMark};
 
 // The live marks of any bytes, by entry number: 1 where an entry is live, and 0 everywhere where the model is refused.
 pub fn live_marks(model: &[u8]) -> [u32; 1024]

@@ -17,7 +17,7 @@ use Rattle.delivery.specs.Numbers.{uppersOf, lowersOf, meansOf}
 use Rattle.delivery.specs.Layout as layout
 use Rattle.delivery.specs.Layout.{eachEntry, eachRow, isDue, inRange, upperRecords, lowerRecords, meanRecords, layoutTests}
 use Rattle.inequalities.specs.Inequalities.{deadTest, upperTest, belowTest, lowerTest, meanTest, deadTests, upperTests, belowTests, lowerTests, meanTests}
-use Rattle.equations.specs.Shown.{liveMark}
+use Rattle.live.specs.Shown.{liveMark}
 use Rattle.certificate.specs.Verdict as verdict
 use Rattle.certificate.specs.Verdict.{numberTests, shapedTests, deliveryTests}
 use Rattle.certificate.specs.Margin.{marginOf}

@@ -11,21 +11,18 @@ use lib.ListN.{length, getD}
 use Rattle.outcome.specs.declared.Outcome.{Outcome}
 use Rattle.outcome.specs.declared.Outcome.the-variants.{Accepted, Refused}
 use Rattle.outcome.proofs.Exactly.{lt-exactly, le-exactly, eq-exactly, both}
-use Rattle.ppda.specs.Equations.{Vector, RowVector, entries, rows}
+use Rattle.ppda.specs.Equations.{Vector, RowVector, entries, rows, SameRows, Same}
 use Rattle.model.specs.Records.{statesOf, symbolsOf}
 use Rattle.model.specs.Verdict.{modelVerdict}
-use Rattle.model.proofs.Accepted.{model-accepted}
+use Rattle.model.proofs.Accepted.{model-accepted, sized-of}
 use Rattle.delivery.specs.Records.{byteOf, valueAt}
 use Rattle.delivery.specs.declared.shape.Shaped.the-variants.{Of}
 use Rattle.delivery.specs.Shapes.{hasLowers, hasMeans, shapeOf}
 use Rattle.ppda.specs.Order.{entriesIn}
 use Rattle.delivery.specs.Numbers.{uppersOf, lowersOf, meansOf}
-use Rattle.equations.specs.Held.{Same}
 use Rattle.model.specs.Accepted.{Sized}
-use Rattle.equations.specs.Shown.{liveMark}
-use Rattle.equations.proofs.Ranges.{few-rows, few-entries}
-use Rattle.equations.proofs.Shown.{sized-of}
-use Rattle.equations.proofs.Vectors.{SameRows}
+use Rattle.live.specs.Shown.{liveMark}
+use Rattle.rows.proofs.Ranges.{few-rows, few-entries}
 use Rattle.certificate.specs.Accepted.{Filed}
 use Rattle.certificate.specs.Margin.{marginOf}
 use Rattle.certificate.specs.Verdict.{verdict}

@@ -17,7 +17,7 @@ use Rattle.delivery.specs.Records.{byteOf, valueAt}
 use Rattle.delivery.specs.Shapes.{hasLowers, hasMeans, shapeOf}
 use Rattle.ppda.specs.Order.{entriesIn}
 use Rattle.delivery.specs.Numbers.{uppersOf, lowersOf, meansOf}
-use Rattle.equations.specs.Shown.{liveMark}
+use Rattle.live.specs.Shown.{liveMark}
 use Rattle.certificate.specs.Verdict.{verdict}
 use Rattle.certificate.specs.Margin.{marginOf}
 use Rattle.register.specs.Filing.{allTo}

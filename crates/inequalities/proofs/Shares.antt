@@ -15,7 +15,7 @@ use Rattle.ppda.proofs.Places.{row-of, row-at, row-below}
 use Rattle.model.specs.Rules.{rulesOf}
 use Rattle.delivery.specs.Records.{valueAt}
 use Rattle.delivery.specs.Numbers.{uppersOf}
-use Rattle.equations.specs.Exits.{bitOf}
+use Rattle.live.specs.Exits.{bitOf}
 use Rattle.inequalities.specs.Shares.{StrictAt, Strict, shareOf, leastShare}
 
 -- ---- one share

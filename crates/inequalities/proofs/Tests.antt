@@ -24,7 +24,7 @@ use Rattle.ppda.proofs.Places.{row-below, entries-most}
 use Rattle.model.specs.Rules.{rulesOf}
 use Rattle.delivery.specs.Records.{valueAt}
 use Rattle.delivery.specs.Numbers.{uppersOf, rowsOfBlock}
-use Rattle.equations.specs.Exits.{bitOf}
+use Rattle.live.specs.Exits.{bitOf}
 use Rattle.inequalities.specs.declared.sides.Side.{Side}
 use Rattle.inequalities.specs.Inequalities.{deadTest, upperTest, belowTest, lowerTest, meanTest}
 use Rattle.inequalities.specs.Walks.{deadAt, sideTest, sideAt, meanAt}

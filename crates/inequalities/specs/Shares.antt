@@ -6,7 +6,7 @@ use Rattle.ppda.specs.Equations.{f}
 use Rattle.ppda.specs.Margin.{shareAt}
 use Rattle.model.specs.Rules.{rulesOf}
 use Rattle.delivery.specs.Numbers.{uppersOf}
-use Rattle.equations.specs.Exits.{exitMarks}
+use Rattle.live.specs.Exits.{exitMarks}
 
 -- An upper u with f(u) = y at an entry with a mark above 0 is greater than f(u).
 abbrev pub StrictAt : ℕ → ℕ → ℕ → Type 0

@@ -10,7 +10,7 @@ ghost use Prim.Native.Nat.{_*_, _/_, _%_, _^_, _≤_, _<_};
 ghost use Rattle.ppda.specs.Sums.{leastTo};
 ghost use Rattle.ppda.specs.Margin.{share, shareAt};
 ghost use Rattle.delivery.specs.Walks.{Within};
-ghost use Rattle.equations.specs.Held.{Starts};
+ghost use Rattle.rows.specs.Starts.{Starts};
 ghost use Rattle.model.specs.Accepted.{Sized};
 ghost use Rattle.inequalities.specs.Shares.{StrictAt, Strict, shareOf, leastShare};
 

@@ -13,7 +13,7 @@ ghost use Prim.Native.Nat.{_*_, _^_, _≤_, _<_};
 ghost use Rattle.outcome.specs.Tests.{first};
 ghost use Rattle.delivery.specs.Layout.{eachRow};
 ghost use Rattle.delivery.specs.Walks.{Within};
-ghost use Rattle.equations.specs.Held.{Starts};
+ghost use Rattle.rows.specs.Starts.{Starts};
 ghost use Rattle.model.specs.Accepted.{Sized};
 ghost use Rattle.inequalities.specs.Inequalities.{meanTest};
 ghost use Rattle.inequalities.specs.Walks.{meanAt};

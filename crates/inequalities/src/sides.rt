@@ -14,7 +14,7 @@ ghost use Prim.Native.Nat.{_*_, _/_, _%_, _^_, _≤_, _<_};
 ghost use Rattle.outcome.specs.Tests.{first, each};
 ghost use Rattle.delivery.specs.Layout.{eachEntry};
 ghost use Rattle.delivery.specs.Walks.{Within};
-ghost use Rattle.equations.specs.Held.{Starts};
+ghost use Rattle.rows.specs.Starts.{Starts};
 ghost use Rattle.model.specs.Accepted.{Sized};
 ghost use Rattle.inequalities.specs.Inequalities.{upperTest, lowerTest};
 ghost use Rattle.inequalities.specs.Walks.{sideTest, sideAt};

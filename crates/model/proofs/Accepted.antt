@@ -4,7 +4,7 @@ use native.Mathlib.Omega.{arith}
 use mathlib.Core.Bool.{Bool, true, false, _&&_, _||_, false≢true}
 use mathlib.Core.List.{List, [], _∷_}
 use mathlib.Core.Logic.{_↔_, Iff·trans, _⊎_, inl, inr}
-use mathlib.Core.Path.{_≡_, refl, sym, _∙_}
+use mathlib.Core.Path.{_≡_, refl, sym, ap, _∙_}
 use lib.Dec.{eqb, leb, ltb}
 use lib.IntN.{ℤ}
 use lib.ListN.{length}
@@ -23,7 +23,8 @@ use Rattle.model.specs.Records.{HasRecord, recordsOf, statesOf, symbolsO
 use Rattle.model.specs.Rules.{pushOf, ruleOf, rulesOf, rowSum}
 use Rattle.model.specs.Verdict.{wholeRecords, rangeAt, unusedAt, weightAt, above, ascends, recordTests, rowTests, rowsTests, modelTests, modelVerdict}
 use Rattle.model.specs.Accepted.{RecordRight, Above, RecordsRight, ModelFile, Sized}
-use Rattle.model.specs.Sizes.{Fits}
+use Rattle.model.specs.Sizes.{sizesOf, Fits}
+use Rattle.model.specs.declared.sizes.Sizes.{Sizes}
 use Rattle.model.proofs.Records.{in-listTo, sizes-fit, state-below, target-below, symbol-below, top-below, under-below}
 use Rattle.model.proofs.Rows.{row-sum}
 
@@ -217,6 +218,12 @@ is-model b m =
     }
 
 -- ---- an accepted model with its sizes
+
+pub sized-of : {b : List ℕ} {s g : ℕ} → modelVerdict b ≡ Accepted → s ≡ statesOf b → g ≡ symbolsOf b → Sized b s g
+sized-of {b} e hs hg = record { file = model-accepted b .0 e; states = hs; symbols = hg }
+
+pub sized-by : {b : List ℕ} {n : Sizes} → modelVerdict b ≡ Accepted → n ≡ sizesOf b → Sized b (n .states) (n .symbols)
+sized-by e same = sized-of e (ap (λ (n : Sizes). n .states) same) (ap (λ (n : Sizes). n .symbols) same)
 
 module _ {b : List ℕ} {s g : ℕ} (sized : Sized b s g) where
   -- Its sizes fit.

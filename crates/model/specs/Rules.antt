@@ -7,15 +7,18 @@ use Rattle.ppda.specs.Order.{rowAt}
 use Rattle.ppda.specs.Rules.{Push, nothing, one, two, Rule, rule}
 use Rattle.model.specs.Records.{recordsOf, state, symbol, target, pushes, top, under, weight}
 
--- What L, Y and X push.
+-- What L, Y and X push, and what record i does.
 abbrev pub pushOf : ℕ → ℕ → ℕ → Push
 pushOf zero y x = nothing
 pushOf (suc zero) y x = one y
 pushOf (suc (suc l)) y x = two y x
 
+abbrev pub pushAt : List ℕ → ℕ → Push
+pushAt b i = pushOf (pushes b i) (top b i) (under b i)
+
 -- The rule of record i.
 unfoldable pub ruleOf : List ℕ → ℕ → Rule
-ruleOf b i = rule (state b i) (symbol b i) (target b i) (pushOf (pushes b i) (top b i) (under b i)) (weight b i)
+ruleOf b i = rule (state b i) (symbol b i) (target b i) (pushAt b i) (weight b i)
 
 -- h 0, h 1, …, h (n − 1).
 unfoldable pub listTo : {A : Type 0} → (ℕ → A) → ℕ → List A

@@ -7,6 +7,7 @@ pub mod Rows
 pub mod Steps
 pub mod Stacks
 pub mod Equations
+pub mod Vectors
 pub mod Upper
 pub mod Marks
 pub mod Live

@@ -1,11 +1,12 @@
 -- The equations of document 001, in whole numbers multiplied out.
 use Prim.Native.Nat.{ℕ, _+_, _*_}
 use mathlib.Core.List.{List}
+use mathlib.Core.Path.{_≡_}
 use lib.Dec.{eqb}
 use lib.ListN.{getD}
 use Rattle.ppda.specs.Sums.{bit, sumTo}
 use Rattle.ppda.specs.Units.{weightUnit}
-use Rattle.ppda.specs.Order.{rowAt, entryAt}
+use Rattle.ppda.specs.Order.{rowAt, entryAt, AtRows, AtEntries}
 use Rattle.ppda.specs.Rules.{Rule, Push, nothing, one, two, overRow}
 
 -- A number for each entry (p, z, q): uppers, lowers or chances.
@@ -15,6 +16,13 @@ Vector = ℕ → ℕ → ℕ → ℕ
 -- A number for each row (p, z): mean steps, document 01's R.
 abbrev pub RowVector : Type 0
 RowVector = ℕ → ℕ → ℕ
+
+-- Two vectors are the same at every entry of a model with s states and g symbols, and two row vectors at every row.
+abbrev pub Same : ℕ → ℕ → Vector → Vector → Type 0
+Same s g v u = AtEntries s g (λ p z q. v p z q ≡ u p z q)
+
+abbrev pub SameRows : ℕ → ℕ → RowVector → RowVector → Type 0
+SameRows s g e k = AtRows s g (λ p z. e p z ≡ k p z)
 
 -- The vector of a list in the order of files, and the same for rows.
 abbrev pub entries : ℕ → ℕ → List ℕ → Vector

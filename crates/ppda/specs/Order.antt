@@ -1,5 +1,5 @@
 -- The order of files: rows ascend by (p, z), and entries by (p, z, q) (document 01, "Deliveries").
-use Prim.Native.Nat.{ℕ, _+_, _*_}
+use Prim.Native.Nat.{ℕ, _+_, _*_, _<_}
 
 -- How many rows (p, z) a model with s states and g symbols has, and V, how many entries (p, z, q).
 abbrev pub rowsIn : ℕ → ℕ → ℕ
@@ -14,3 +14,10 @@ rowAt g p z = p * g + z
 
 abbrev pub entryAt : ℕ → ℕ → ℕ → ℕ → ℕ → ℕ
 entryAt s g p z q = rowAt g p z * s + q
+
+-- A statement about every row, and about every entry.
+abbrev pub AtRows : ℕ → ℕ → (ℕ → ℕ → Type 0) → Type 0
+AtRows s g P = (p z : ℕ) → p < s → z < g → P p z
+
+abbrev pub AtEntries : ℕ → ℕ → (ℕ → ℕ → ℕ → Type 0) → Type 0
+AtEntries s g P = (p z q : ℕ) → p < s → z < g → q < s → P p z q

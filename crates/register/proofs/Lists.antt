@@ -11,12 +11,11 @@ use lib.ListN.{length, getD, take, set, replicate, length-take, length-set, leng
 use lib.Seq.{take-all, ext-getD, getD-take, getD-set-same, getD-set-other, length-take-le}
 use borrow.Author.Tests.{ltb-true, ltb-false, lt-ltb, eqb-true, eqb-false, eq-eqb}
 use borrow.Author.Count.{below-more}
-use Rattle.ppda.specs.Equations.{Vector, RowVector, entries, rows}
+use Rattle.ppda.specs.Equations.{Vector, RowVector, entries, rows, SameRows, Same}
 use Rattle.ppda.proofs.Lists.{getD-zeros}
 use Rattle.ppda.proofs.Places.{row-at, row-of, row-below, entry-below}
 use Rattle.model.proofs.Records.{length-listTo, getD-listTo, listTo-ext}
-use Rattle.equations.specs.Held.{Same, Marks}
-use Rattle.equations.proofs.Vectors.{SameRows}
+use Rattle.equations.specs.Held.{Marks}
 use Rattle.register.specs.Held.{padded, listed, listedRows, filled}
 use Rattle.register.specs.Filing.{allTo, sameTo}
 

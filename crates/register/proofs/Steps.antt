@@ -23,7 +23,7 @@ use Rattle.ppda.specs.Order.{entriesIn}
 use Rattle.delivery.specs.Numbers.{lowersOf, meansOf}
 use Rattle.delivery.specs.Walks.{Values}
 use Rattle.equations.specs.Held.{Marks}
-use Rattle.equations.specs.Shown.{liveMark}
+use Rattle.live.specs.Shown.{liveMark}
 use Rattle.certificate.specs.Verdict.{verdict}
 use Rattle.certificate.specs.Margin.{marginOf}
 use Rattle.certificate.proofs.Accepted.{delivery-accepted}

@@ -11,7 +11,7 @@ use Rattle.delivery.specs.declared.shape.Shape.{Shape}
 use Rattle.delivery.specs.Shapes.{hasLowers, hasMeans}
 use Rattle.ppda.specs.Order.{entriesIn, rowsIn}
 use Rattle.delivery.specs.Numbers.{uppersOf, lowersOf, meansOf}
-use Rattle.equations.specs.Shown.{liveMark}
+use Rattle.live.specs.Shown.{liveMark}
 use Rattle.certificate.specs.Margin.{marginOf}
 use Rattle.register.specs.declared.held.HeldModel.{HeldModel}
 use Rattle.register.specs.declared.held.HeldDelivery.{HeldDelivery}

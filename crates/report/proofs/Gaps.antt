@@ -7,7 +7,7 @@ use mathlib.Core.List.{List, [], _++_}
 use mathlib.Core.Path.{_≡_, refl, ap, ap₂, _∙_}
 use lib.ListN.{length, take}
 use Rattle.outcome.specs.declared.Outcome.the-variants.{Accepted}
-use Rattle.ppda.specs.Equations.{Vector, f}
+use Rattle.ppda.specs.Equations.{Vector, f, Same}
 use Rattle.ppda.proofs.Places.{row-at}
 use Rattle.model.specs.Rules.{rulesOf}
 use Rattle.delivery.specs.Records.{valueAt}
@@ -15,10 +15,10 @@ use Rattle.delivery.specs.declared.shape.Shaped.the-variants.{Of}
 use Rattle.delivery.specs.Shapes.{shapeOf}
 use Rattle.delivery.specs.Numbers.{uppersOf}
 use Rattle.delivery.proofs.Shapes.{uppers-fit}
-use Rattle.equations.specs.Held.{Starts, Same}
+use Rattle.rows.specs.Starts.{Starts}
 use Rattle.model.specs.Accepted.{Sized}
-use Rattle.equations.proofs.Ranges.{sized-model}
-use Rattle.equations.proofs.Vectors.{f-same}
+use Rattle.model.proofs.Accepted.{sized-model}
+use Rattle.ppda.proofs.Vectors.{f-same}
 use Rattle.certificate.specs.Accepted.{UppersRight}
 use Rattle.certificate.specs.Verdict.{verdict}
 use Rattle.certificate.proofs.Accepted.{delivery-accepted}

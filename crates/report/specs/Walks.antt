@@ -7,7 +7,7 @@ use Rattle.ppda.specs.Equations.{f}
 use Rattle.model.specs.Rules.{rulesOf}
 use Rattle.delivery.specs.Numbers.{uppersOf}
 use Rattle.delivery.specs.Walks.{Within}
-use Rattle.equations.specs.Held.{Starts}
+use Rattle.rows.specs.Starts.{Starts}
 use Rattle.model.specs.Accepted.{Sized}
 use Rattle.report.specs.declared.Printout.{Printout}
 

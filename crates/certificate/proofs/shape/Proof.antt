@@ -4,7 +4,7 @@ use denote.Ref.{now}
 use borrow.Author.Needs.{needs}
 use Rattle.outcome.specs.declared.Outcome.the-variants.{Accepted}
 use Rattle.model.specs.Verdict.{modelVerdict}
-use Rattle.equations.proofs.Shown.{sized-of}
+use Rattle.model.proofs.Accepted.{sized-of}
 use Rattle.certificate.proofs.Steps.{some-and-few, shape-of-refused, shape-of-accepted}
 use Rattle.certificate.proofs.shape.Statement.{statement}
 use Rattle.certificate.proofs.shape.Tie as tie

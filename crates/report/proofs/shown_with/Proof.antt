@@ -1,7 +1,7 @@
 -- `shown_with`: the line of the sizes, of the margin, the lines of the live entries and of the rows, one after the other.
 use native.Mathlib.Omega.{arith}
 use borrow.Author.Needs.{needs}
-use Rattle.equations.proofs.Ranges.{few-states, few-symbols}
+use Rattle.rows.proofs.Ranges.{few-states, few-symbols}
 use Rattle.report.proofs.Puts.{put-as, put-then, put-holds}
 use Rattle.report.proofs.Asked.{lines-said}
 use Rattle.report.proofs.shown_with.Statement.{statement}

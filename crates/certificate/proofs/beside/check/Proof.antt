@@ -3,7 +3,7 @@ use mathlib.Core.Path.{refl, sym, _∙_}
 use denote.Ref.{now}
 use borrow.Author.Needs.{needs}
 use Rattle.model.specs.Accepted.{Sized}
-use Rattle.equations.proofs.Shown.{sized-of}
+use Rattle.model.proofs.Accepted.{sized-of}
 use Rattle.certificate.proofs.Steps.{some-and-few, delivery-decides, no-shape}
 use Rattle.certificate.proofs.beside.check.Statement.{statement}
 use Rattle.certificate.proofs.beside.check.Tie as tie

@@ -5,8 +5,8 @@ use native.Mathlib.Omega.{arith}
 use mathlib.Core.Path.{_∙_}
 use Rattle.ppda.specs.Equations.{through, f}
 use Rattle.delivery.specs.Numbers.{uppersOf}
-use Rattle.equations.proofs.Ranges.{few-states, few-rows, record-within, start-most}
-use Rattle.equations.proofs.Sums.{RowSum, row-begin, row-record, row-more, row-end, row-within}
+use Rattle.rows.proofs.Ranges.{few-states, few-rows, record-within, start-most}
+use Rattle.rows.proofs.Sums.{RowSum, row-begin, row-record, row-more, row-end, row-within}
 use Rattle.equations.proofs.Limits.{through-most}
 use Rattle.equations.proofs.chances.f.Statement.{statement}
 use Rattle.equations.proofs.chances.f.Tie as tie

@@ -4,8 +4,9 @@ use native.Mathlib.Omega.{arith}
 use mathlib.Core.Path.{sym, _∙_}
 use borrow.Author.Tests.{eq-eqb, ne-eqb}
 use borrow.Author.Needs.{needs}
-use Rattle.equations.proofs.Ranges.{few-states, few-symbols, record-names}
-use Rattle.equations.proofs.Sums.{pushes-nothing, pushes-one, pushes-two}
+use Rattle.rows.proofs.Ranges.{few-states, few-symbols}
+use Rattle.model.proofs.Accepted.{record-names}
+use Rattle.rows.proofs.Sums.{pushes-nothing, pushes-one, pushes-two}
 use Rattle.equations.proofs.Limits.{upper-most}
 use Rattle.equations.proofs.chances.through.Statement.{statement}
 use Rattle.equations.proofs.chances.through.Tie as tie

@@ -4,7 +4,7 @@ use native.Mathlib.Omega.{arith}
 use borrow.Author.Needs.{needs}
 use Rattle.ppda.proofs.Places.{entry-below}
 use Rattle.delivery.specs.Numbers.{uppersOf}
-use Rattle.equations.proofs.Ranges.{place}
+use Rattle.rows.proofs.Ranges.{place}
 use Rattle.equations.proofs.chances.value.Statement.{statement}
 use Rattle.equations.proofs.chances.value.Tie as tie
 

@@ -4,8 +4,8 @@ use Prim.Native.Nat.{_+_, _*_, _/_, _%_, _^_, _≤_, _-_}
 use native.Mathlib.Omega.{arith}
 use Rattle.ppda.specs.Equations.{stepsThrough, meanSide}
 use Rattle.delivery.specs.Numbers.{uppersOf, rowsOfBlock}
-use Rattle.equations.proofs.Ranges.{few-states, few-rows, record-within, start-most}
-use Rattle.equations.proofs.Sums.{RowSum, row-begin, row-record, row-more, row-end, row-within}
+use Rattle.rows.proofs.Ranges.{few-states, few-rows, record-within, start-most}
+use Rattle.rows.proofs.Sums.{RowSum, row-begin, row-record, row-more, row-end, row-within}
 use Rattle.equations.proofs.Limits.{steps-most}
 use Rattle.equations.proofs.steps.mean_side.Statement.{statement}
 use Rattle.equations.proofs.steps.mean_side.Tie as tie

@@ -3,8 +3,9 @@ use Prim.Native.Nat.{_+_, _*_, _≤_}
 use native.Mathlib.Omega.{arith}
 use mathlib.Core.Path.{sym, ap₂, _∙_}
 use borrow.Author.Needs.{needs}
-use Rattle.equations.proofs.Ranges.{few-states, few-symbols, record-names}
-use Rattle.equations.proofs.Sums.{pushes-nothing, pushes-one, pushes-two}
+use Rattle.rows.proofs.Ranges.{few-states, few-symbols}
+use Rattle.model.proofs.Accepted.{record-names}
+use Rattle.rows.proofs.Sums.{pushes-nothing, pushes-one, pushes-two}
 use Rattle.equations.proofs.steps.steps_through.Statement.{statement}
 use Rattle.equations.proofs.steps.steps_through.Tie as tie
 

@@ -6,7 +6,7 @@ use mathlib.Core.Path.{_≡_, ap, _∙_}
 use denote.Ref.{now}
 use borrow.Author.Needs.{needs}
 use Rattle.ppda.specs.Sums.{leastTo}
-use Rattle.equations.proofs.Ranges.{place, few-states, few-symbols, some-symbols, few-rows}
+use Rattle.rows.proofs.Ranges.{place, few-states, few-symbols, some-symbols, few-rows}
 use Rattle.inequalities.specs.Shares.{shareOf}
 use Rattle.inequalities.proofs.Tests.{entry-within}
 use Rattle.inequalities.proofs.Shares.{strict-found, share-found, least-none, least-more}

@@ -3,7 +3,7 @@ use Prim.Native.Nat.{_*_, _-_, _≤_}
 use native.Mathlib.Omega.{arith}
 use mathlib.Core.Path.{_≡_}
 use borrow.Author.Needs.{needs}
-use Rattle.equations.proofs.Ranges.{few-states, few-symbols, some-symbols}
+use Rattle.rows.proofs.Ranges.{few-states, few-symbols, some-symbols}
 use Rattle.inequalities.proofs.Shares.{leastOfRows, rows-none, rows-more, rows-all}
 use Rattle.inequalities.proofs.margin.margin_of.Statement.{statement}
 use Rattle.inequalities.proofs.margin.margin_of.Tie as tie

@@ -10,7 +10,7 @@ use Rattle.outcome.specs.Tests.{first, each}
 use Rattle.outcome.specs.declared.Outcome.{Outcome}
 use Rattle.outcome.specs.declared.Outcome.the-variants.{Accepted}
 use Rattle.ppda.proofs.Places.{rows-most}
-use Rattle.equations.proofs.Ranges.{place}
+use Rattle.rows.proofs.Ranges.{place}
 use Rattle.inequalities.specs.Inequalities.{deadTest}
 use Rattle.inequalities.specs.Walks.{deadAt}
 use Rattle.inequalities.proofs.Tests.{entry-within, dead-fails, dead-passes, dead-found}

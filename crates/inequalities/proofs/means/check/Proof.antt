@@ -10,7 +10,7 @@ use Rattle.outcome.specs.Tests.{Test, first, each}
 use Rattle.outcome.specs.declared.Outcome.the-variants.{Accepted}
 use Rattle.delivery.specs.Layout.{eachRow}
 use Rattle.delivery.proofs.Walks.{rows-by-number}
-use Rattle.equations.proofs.Ranges.{few-states, few-symbols, some-symbols}
+use Rattle.rows.proofs.Ranges.{few-states, few-symbols, some-symbols}
 use Rattle.inequalities.specs.Walks.{meanAt}
 use Rattle.inequalities.proofs.Tests.{mean-found}
 use Rattle.inequalities.proofs.means.check.Statement.{statement}

@@ -10,7 +10,7 @@ use Rattle.outcome.specs.Tests.{Test, first, each}
 use Rattle.outcome.specs.declared.Outcome.the-variants.{Accepted}
 use Rattle.delivery.specs.Layout.{eachEntry}
 use Rattle.delivery.proofs.Walks.{entries-by-row}
-use Rattle.equations.proofs.Ranges.{few-states, few-symbols, some-symbols}
+use Rattle.rows.proofs.Ranges.{few-states, few-symbols, some-symbols}
 use Rattle.inequalities.specs.declared.sides.Side.{Side}
 use Rattle.inequalities.specs.Walks.{sideAt}
 use Rattle.inequalities.proofs.sides.check.Statement.{statement}

@@ -7,7 +7,7 @@ use borrow.Author.Needs.{needs}
 use Rattle.outcome.proofs.Tests.{each-none, each-more, each-refused, each-end}
 use Rattle.outcome.specs.Tests.{first, each}
 use Rattle.outcome.specs.declared.Outcome.the-variants.{Accepted}
-use Rattle.equations.proofs.Ranges.{place, few-states, few-symbols, few-rows}
+use Rattle.rows.proofs.Ranges.{place, few-states, few-symbols, few-rows}
 use Rattle.inequalities.specs.Walks.{sideAt}
 use Rattle.inequalities.proofs.Tests.{entry-within, side-found}
 use Rattle.inequalities.proofs.sides.check_row.Statement.{statement}

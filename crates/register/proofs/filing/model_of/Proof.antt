@@ -2,8 +2,8 @@
 use native.Mathlib.Omega.{arith}
 use mathlib.Core.Path.{refl}
 use borrow.Author.Needs.{needs}
-use Rattle.equations.proofs.Ranges.{few-states, few-symbols}
-use Rattle.equations.proofs.Shown.{sized-of}
+use Rattle.rows.proofs.Ranges.{few-states, few-symbols}
+use Rattle.model.proofs.Accepted.{sized-of}
 use Rattle.register.proofs.Steps.{model-fits, model-is}
 use Rattle.register.proofs.filing.model_of.Statement.{statement}
 use Rattle.register.proofs.filing.model_of.Tie as tie

@@ -2,7 +2,7 @@
 use Prim.Native.Nat.{_+_, _*_, _<_}
 use native.Mathlib.Omega.{arith}
 use Rattle.ppda.proofs.Places.{row-below, entry-below}
-use Rattle.equations.proofs.Ranges.{few-states, few-symbols, place}
+use Rattle.rows.proofs.Ranges.{few-states, few-symbols, place}
 use Rattle.report.proofs.Gaps.{upper-most, f-most, gap-found}
 use Rattle.report.proofs.chances.gap.Statement.{statement}
 use Rattle.report.proofs.chances.gap.Tie as tie
