@@ -35,13 +35,16 @@ pub record Values (d : List ℕ) (n : ℕ) (l : List ℕ) : Type 0 where
   pub value : (e : ℕ) → e < n → getD l e 0 ≡ valueAt d e
   pub none : (e : ℕ) → n ≤ e → getD l e 0 ≡ 0
 
--- The file has n records from record `at` on.
+-- The file has n records, and n records from record `at` on.
+abbrev pub HasRecords : ℕ → List ℕ → Type 0
+HasRecords n d = recordBytes * n ≤ length d
+
 abbrev pub HasBlock : ℕ → ℕ → List ℕ → Type 0
-HasBlock at n d = recordBytes * (at + n) ≤ length d
+HasBlock at n d = HasRecords (at + n) d
 
 -- The bytes have n records or more, and no value of them is above a.
 pub record Within (d : List ℕ) (n a : ℕ) : Type 0 where
-  pub whole : recordBytes * n ≤ length d
+  pub whole : HasRecords n d
   pub most : (e : ℕ) → valueAt d e ≤ a
 
 -- A block of chances in range, uppers or lowers: one for each entry. And a block of mean steps in range: one for each row.

@@ -1,8 +1,2 @@
--- The laws that the functions' proofs share, and those for the crates above.
-pub mod Ranges
-pub mod Sums
+-- The laws that the functions' proofs share.
 pub mod Limits
-pub mod Vectors
-pub mod Exits
-pub mod Marks
-pub mod Shown

@@ -3,59 +3,62 @@ use Prim.Native.Nat.{_+_, _*_, _/_, _%_, _^_, _≤_, _-_}
 use native.Mathlib.Nat.{zero-add}
 use native.Mathlib.Omega.{arith}
 use mathlib.Core.Path.{_∙_}
+use Rattle.ppda.specs.Units.{chanceUnit}
 use Rattle.ppda.specs.Equations.{through, f}
 use Rattle.delivery.specs.Numbers.{uppersOf}
-use Rattle.rows.proofs.Ranges.{few-states, few-rows, record-within, start-most}
+use Rattle.model.proofs.Accepted.{sized-fits, has-record}
+use Rattle.rows.proofs.Ranges.{start-most}
 use Rattle.rows.proofs.Sums.{RowSum, row-begin, row-record, row-more, row-end, row-within}
 use Rattle.equations.proofs.Limits.{through-most}
 use Rattle.equations.proofs.chances.f.Statement.{statement}
 use Rattle.equations.proofs.chances.f.Tie as tie
 
 abbrev Inv-loop : tie.InvT-loop
-Inv-loop model starts block s g row q end i₀ sum₀ i sum =
-    RowSum model s g (row / g) (row % g) (λ r x. through s (2 ^ 20) (uppersOf s g block) r x q) row i₀ end sum₀ i sum
+Inv-loop model starts block n row q end i₀ sum₀ i sum =
+    RowSum model (n .states) (n .symbols) (row / n .symbols) (row % n .symbols)
+    (λ r x. through (n .states) chanceUnit (uppersOf (n .states) (n .symbols) block) r x q) row i₀ end sum₀ i sum
 
 abbrev μ-loop : tie.MeasureT-loop
-μ-loop model starts block s g row q end i₀ sum₀ i sum = end - i
+μ-loop model starts block n row q end i₀ sum₀ i sum = end - i
 
 add-end : tie.Need-add-end Inv-loop μ-loop
-add-end c = omega (arith, few-rows (c .before .before .pre .0))
+add-end c = omega (arith, sized-fits (c .before .before .pre .0 .0 .sized) .few-rows)
 
 mul-end : tie.Need-mul-end Inv-loop μ-loop
-mul-end c = omega (arith, few-rows (c .before .before .pre .0))
+mul-end c = omega (arith, sized-fits (c .before .before .pre .0 .0 .sized) .few-rows)
 
 element-copy-out-end : tie.Need-element-copy-out-end Inv-loop μ-loop
-element-copy-out-end c = omega (arith, few-rows (c .before .before .pre .0))
+element-copy-out-end c = omega (arith, sized-fits (c .before .before .pre .0 .0 .sized) .few-rows)
 
 cast-end : tie.Need-cast-end Inv-loop μ-loop
 cast-end c =
     let start = c .before .before .before in
-    omega (arith, start-most (start .args .starts .now) (start .pre .0) (start .pre .1) (start .args .row + 1) (omega arith))
+    omega (arith, start-most (start .args .starts .now) (start .pre .0 .0 .sized) (start .pre .0 .0 .starts-at) (start .args .row + 1) (omega arith))
 
 mul-i : tie.Need-mul-i Inv-loop μ-loop
-mul-i c = omega (arith, few-rows (c .before .before .before .pre .0))
+mul-i c = omega (arith, sized-fits (c .before .before .before .pre .0 .0 .sized) .few-rows)
 
 element-copy-out-i : tie.Need-element-copy-out-i Inv-loop μ-loop
-element-copy-out-i c = omega (arith, few-rows (c .before .before .before .pre .0))
+element-copy-out-i c = omega (arith, sized-fits (c .before .before .before .pre .0 .0 .sized) .few-rows)
 
 cast-i : tie.Need-cast-i Inv-loop μ-loop
 cast-i c =
     let start = c .before .before .before .before in
-    omega (arith, start-most (start .args .starts .now) (start .pre .0) (start .pre .1) (start .args .row) (omega arith))
+    omega (arith, start-most (start .args .starts .now) (start .pre .0 .0 .sized) (start .pre .0 .0 .starts-at) (start .args .row) (omega arith))
 
 loop-holds : tie.Need-loop-holds Inv-loop μ-loop
 loop-holds c =
     let start = c .before .before .before .before in
-    row-begin _ _ _ (start .args .starts .now) (start .pre .0) (start .pre .1) (start .pre .3)
+    row-begin _ _ _ (start .args .starts .now) (start .pre .0 .0 .sized) (start .pre .0 .0 .starts-at) (start .pre .1 .0)
 
 weight-requires : tie.Need-weight-requires Inv-loop μ-loop
 weight-requires c κs =
-    record-within (c .before .before .before .before .before .before .pre .0) (row-record (c .before .loop .inv) (c .loop-test .taken))
+    has-record (c .before .before .before .before .before .before .pre .0 .0 .sized) (row-record (c .before .loop .inv) (c .loop-test .taken))
 
 through-requires : tie.Need-through-requires Inv-loop μ-loop
 through-requires c κs =
     let pre = c .before .before .before .before .before .before .before .pre in
-    (pre .0, row-record (c .before .before .loop .inv) (c .before .loop-test .taken), pre .2, pre .4)
+    ((pre .0 .0 .sized, pre .0 .1), (row-record (c .before .before .loop .inv) (c .before .loop-test .taken), pre .1 .1))
 
 loop-again : tie.Need-loop-again Inv-loop μ-loop
 loop-again c =
@@ -65,7 +68,7 @@ summed : (c : tie.After-through Inv-loop μ-loop)
     → c .before .before .before .loop .sum + c .before .weight .result * c .through .result ≤ 2 ^ 61
 summed c =
     let pre = c .before .before .before .before .before .before .before .before .pre in
-    row-within (loop-again c) (2 ^ 45) (through-most _ _ (few-states (pre .0)) (pre .2) _)
+    row-within (loop-again c) (2 ^ 45) (through-most _ _ (sized-fits (pre .0 .0 .sized) .few-states) (pre .0 .1) _)
 
 mul-sum : tie.Need-mul-sum Inv-loop μ-loop
 mul-sum c = omega (arith, summed c)
@@ -84,7 +87,7 @@ unfolding f
 returns c =
     let pre = c .before .before .before .before .before .before .pre in
     let inv = c .before .loop .inv in
-    let most = row-within inv (2 ^ 45) (through-most _ _ (few-states (pre .0)) (pre .2) _) in
+    let most = row-within inv (2 ^ 45) (through-most _ _ (sized-fits (pre .0 .0 .sized) .few-states) (pre .0 .1) _) in
     (row-end inv (c .loop-test .left) ∙ zero-add _, most)
 
 pub f-spec : {M : Type 1} → statement M

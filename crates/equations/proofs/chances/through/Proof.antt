@@ -4,18 +4,18 @@ use native.Mathlib.Omega.{arith}
 use mathlib.Core.Path.{sym, _∙_}
 use borrow.Author.Tests.{eq-eqb, ne-eqb}
 use borrow.Author.Needs.{needs}
-use Rattle.rows.proofs.Ranges.{few-states, few-symbols}
-use Rattle.model.proofs.Accepted.{record-names}
+use Rattle.ppda.specs.Units.{mostChance}
+use Rattle.model.proofs.Accepted.{sized-fits, record-names}
 use Rattle.rows.proofs.Sums.{pushes-nothing, pushes-one, pushes-two}
 use Rattle.equations.proofs.Limits.{upper-most}
 use Rattle.equations.proofs.chances.through.Statement.{statement}
 use Rattle.equations.proofs.chances.through.Tie as tie
 
-field-requires : tie.Need-field-requires
-field-requires c κs = search needs
+target-requires : tie.Need-target-requires
+target-requires c κs = search needs
 
-field-requires-2 : tie.Need-field-requires-2
-field-requires-2 c κs = search needs
+pushes-requires : tie.Need-pushes-requires
+pushes-requires c κs = search needs
 
 mul-result : tie.Need-mul-result
 mul-result c = search needs
@@ -23,8 +23,8 @@ mul-result c = search needs
 returns : tie.Need-returns
 returns c = (
   rw (
-    pushes-nothing _ _ _ (sym (c .before .before .field2 .ensures .0) ∙ c .before .if1 .taken),
-    eq-eqb _ _ (sym (c .before .before .before .field .ensures .0) ∙ c .if2 .taken),
+    pushes-nothing _ _ _ (sym (c .before .before .pushes .ensures .0) ∙ c .before .if1 .taken),
+    eq-eqb _ _ (sym (c .before .before .before .target .ensures .0) ∙ c .if2 .taken),
   ) (omega arith),
   omega arith,
 )
@@ -32,49 +32,49 @@ returns c = (
 returns-2 : tie.Need-returns-2
 returns-2 c = (
   rw (
-    pushes-nothing _ _ _ (sym (c .before .before .field2 .ensures .0) ∙ c .before .if1 .taken),
-    ne-eqb _ _ (λ e. c .if2 .left (c .before .before .before .field .ensures .0 ∙ e)),
+    pushes-nothing _ _ _ (sym (c .before .before .pushes .ensures .0) ∙ c .before .if1 .taken),
+    ne-eqb _ _ (λ e. c .if2 .left (c .before .before .before .target .ensures .0 ∙ e)),
   ) (omega arith),
   omega arith,
 )
 
-field-requires-3 : tie.Need-field-requires-3
-field-requires-3 c κs = search needs
+top-requires : tie.Need-top-requires
+top-requires c κs = search needs
 
 value-requires : tie.Need-value-requires
 value-requires c κs =
     let pre = c .before .before .before .before .before .before .before .pre in
-    let names = record-names (pre .0) (pre .1) in
-    (few-states (pre .0), few-symbols (pre .0), omega arith, omega arith, pre .3, pre .2 .whole)
+    let names = record-names (pre .0 .0) (pre .1 .0) in
+    ((sized-fits (pre .0 .0), pre .0 .1 .whole), (omega arith, omega arith, pre .1 .1))
 
-value-most : (c : tie.After-value) → c .value .result ≤ 2097152
-value-most c = rw (c .value .ensures .0) (upper-most (c .before .before .before .before .before .before .before .before .pre .2) _ _ _ _ _)
+value-most : (c : tie.After-value) → c .value .result ≤ mostChance
+value-most c = rw (c .value .ensures .0) (upper-most (c .before .before .before .before .before .before .before .before .pre .0 .1) _ _ _ _ _)
 
 mul-result-2 : tie.Need-mul-result-2
 mul-result-2 c = search needs
 
 returns-3 : tie.Need-returns-3
 returns-3 c = (
-  rw (pushes-one _ _ _ (sym (c .before .before .before .before .field2 .ensures .0) ∙ c .before .if3 .taken)) (cc),
+  rw (pushes-one _ _ _ (sym (c .before .before .before .before .pushes .ensures .0) ∙ c .before .if3 .taken)) (cc),
   omega (arith, value-most c),
 )
 
-field-requires-4 : tie.Need-field-requires-4
-field-requires-4 c κs = search needs
+under-requires : tie.Need-under-requires
+under-requires c κs = search needs
 
 through-two-requires : tie.Need-through-two-requires
 through-two-requires c κs =
     let pre = c .before .before .before .before .before .before .before .before .pre in
-    let names = record-names (pre .0) (pre .1) in
-    (few-states (pre .0), few-symbols (pre .0), omega arith, omega arith, omega arith, pre .3, pre .2)
+    let names = record-names (pre .0 .0) (pre .1 .0) in
+    ((sized-fits (pre .0 .0), pre .0 .1), (omega arith, omega arith, omega arith, pre .1 .1))
 
 returns-4 : tie.Need-returns-4
 returns-4 c = (
   rw (pushes-two _ _ _
-      (λ e. c .before .before .before .before .if1 .left (c .before .before .before .before .before .field2 .ensures .0 ∙ e))
-      (λ e. c .before .before .if3 .left (c .before .before .before .before .before .field2 .ensures .0 ∙ e)))
+      (λ e. c .before .before .before .before .if1 .left (c .before .before .before .before .before .pushes .ensures .0 ∙ e))
+      (λ e. c .before .before .if3 .left (c .before .before .before .before .before .pushes .ensures .0 ∙ e)))
       (c .through-two .ensures .0
-      ∙ simp (c .before .before .before .before .before .before .field .ensures .0, c .before .before .before .field3 .ensures .0, c .before .field4 .ensures .0)),
+      ∙ simp (c .before .before .before .before .before .before .target .ensures .0, c .before .before .before .top .ensures .0, c .before .under .ensures .0)),
   c .through-two .ensures .1,
 )
 
@@ -82,15 +82,15 @@ pub through-spec : {M : Type 1} → statement M
 through-spec =
     tie.close
     (tie.spec
-    field-requires
-    field-requires-2
+    target-requires
+    pushes-requires
     mul-result
     returns
     returns-2
-    field-requires-3
+    top-requires
     value-requires
     mul-result-2
     returns-3
-    field-requires-4
+    under-requires
     through-two-requires
     returns-4)

@@ -10,19 +10,23 @@ use Rattle.equations.proofs.chances.through_two.Statement.{statement}
 use Rattle.equations.proofs.chances.through_two.Tie as tie
 
 abbrev Inv-loop : tie.InvT-loop
-Inv-loop block s g r y x q sum₀ t₀ sum t = StateSum (product s g block r y x q) s t sum
+Inv-loop block n r y x q s sum₀ t₀ sum t = StateSum (product (n .states) (n .symbols) block r y x q) s t sum
 
 abbrev μ-loop : tie.MeasureT-loop
-μ-loop block s g r y x q sum₀ t₀ sum t = s - t
+μ-loop block n r y x q s sum₀ t₀ sum t = s - t
 
 loop-holds : tie.Need-loop-holds Inv-loop μ-loop
 loop-holds c = states-none
 
 value-requires : tie.Need-value-requires Inv-loop μ-loop
-value-requires c κs = let pre = c .before .before .before .pre in omega (arith, pre .6 .whole)
+value-requires c κs =
+    let pre = c .before .before .before .pre in
+    ((pre .0 .0, pre .0 .1 .whole), (pre .1 .0, pre .1 .1, c .loop-test .taken))
 
 value-requires-2 : tie.Need-value-requires-2 Inv-loop μ-loop
-value-requires-2 c κs = let pre = c .before .before .before .before .pre in omega (arith, pre .6 .whole)
+value-requires-2 c κs =
+    let pre = c .before .before .before .before .pre in
+    ((pre .0 .0, pre .0 .1 .whole), (c .before .loop-test .taken, pre .1 .2, pre .1 .3))
 
 loop-again : tie.Need-loop-again Inv-loop μ-loop
 loop-again c =
@@ -32,7 +36,7 @@ loop-again c =
 summed : (c : tie.After-value2 Inv-loop μ-loop) → c .before .before .before .loop .sum + c .before .value .result * c .value2 .result ≤ 2 ^ 45
 summed c =
     let pre = c .before .before .before .before .before .pre in
-    states-within (loop-again c) _ (pre .0) (λ t. mul-le-mul (upper-most (pre .6) _ _ _ _ _) (upper-most (pre .6) _ _ _ _ _))
+    states-within (loop-again c) _ (pre .0 .0 .few-states) (λ t. mul-le-mul (upper-most (pre .0 .1) _ _ _ _ _) (upper-most (pre .0 .1) _ _ _ _ _))
 
 mul-sum : tie.Need-mul-sum Inv-loop μ-loop
 mul-sum c = omega (arith, summed c)
@@ -50,7 +54,7 @@ returns : tie.Need-returns Inv-loop μ-loop
 returns c =
     let pre = c .before .before .before .pre in
     let inv = c .before .loop .inv in
-    (states-end inv (c .loop-test .left), states-within inv _ (pre .0) (λ t. mul-le-mul (upper-most (pre .6) _ _ _ _ _) (upper-most (pre .6) _ _ _ _ _)))
+    (states-end inv (c .loop-test .left), states-within inv _ (pre .0 .0 .few-states) (λ t. mul-le-mul (upper-most (pre .0 .1) _ _ _ _ _) (upper-most (pre .0 .1) _ _ _ _ _)))
 
 pub through-two-spec : {M : Type 1} → statement M
 through-two-spec =

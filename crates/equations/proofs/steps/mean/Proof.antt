@@ -1,18 +1,17 @@
 -- `mean`: the row's record is one of the block's.
 use native.Mathlib.Omega.{arith}
-use borrow.Author.Needs.{needs}
-use Rattle.ppda.proofs.Places.{row-below}
+use Rattle.model.proofs.Records.{fits-narrow}
 use Rattle.equations.proofs.steps.mean.Statement.{statement}
 use Rattle.equations.proofs.steps.mean.Tie as tie
 
-row-number-requires : tie.Need-row-number-requires
-row-number-requires c κs = search needs
+row-requires : tie.Need-row-requires
+row-requires c κs = let pre = c .before .pre in (fits-narrow (pre .0 .0), pre .1 .0, pre .1 .1)
 
-value-requires : tie.Need-value-requires
-value-requires c κs = let pre = c .before .before .pre in omega (arith, row-below _ _ _ _ (pre .2) (pre .3))
+value-at-requires : tie.Need-value-at-requires
+value-at-requires c κs = omega (arith, c .row .ensures .1, c .before .before .pre .0 .1)
 
 returns : tie.Need-returns
-returns c = (cc, c .value .ensures .1)
+returns c = (cc, c .value-at .ensures .1)
 
 pub mean-spec : {M : Type 1} → statement M
-mean-spec = tie.close (tie.spec row-number-requires value-requires returns)
+mean-spec = tie.close (tie.spec row-requires value-at-requires returns)

@@ -10,19 +10,23 @@ use Rattle.equations.proofs.steps.steps_two.Statement.{statement}
 use Rattle.equations.proofs.steps.steps_two.Tie as tie
 
 abbrev Inv-loop : tie.InvT-loop
-Inv-loop uppers means s g r y x sum₀ t₀ sum t = StateSum (stepsProduct s g uppers means r y x) s t sum
+Inv-loop uppers means n r y x s sum₀ t₀ sum t = StateSum (stepsProduct (n .states) (n .symbols) uppers means r y x) s t sum
 
 abbrev μ-loop : tie.MeasureT-loop
-μ-loop uppers means s g r y x sum₀ t₀ sum t = s - t
+μ-loop uppers means n r y x s sum₀ t₀ sum t = s - t
 
 loop-holds : tie.Need-loop-holds Inv-loop μ-loop
 loop-holds c = states-none
 
 value-requires : tie.Need-value-requires Inv-loop μ-loop
-value-requires c κs = let pre = c .before .before .before .before .pre in omega (arith, pre .5 .whole)
+value-requires c κs =
+    let pre = c .before .before .before .before .pre in
+    ((pre .0 .0, pre .0 .1 .whole), (pre .1 .0, pre .1 .1, c .loop-test .taken))
 
 mean-requires : tie.Need-mean-requires Inv-loop μ-loop
-mean-requires c κs = let pre = c .before .before .before .before .before .pre in omega (arith, pre .6 .whole)
+mean-requires c κs =
+    let pre = c .before .before .before .before .before .pre in
+    ((pre .0 .0, pre .0 .2 .whole), (c .before .loop-test .taken, pre .1 .2))
 
 loop-again : tie.Need-loop-again Inv-loop μ-loop
 loop-again c =
@@ -32,7 +36,7 @@ loop-again c =
 summed : (c : tie.After-mean Inv-loop μ-loop) → c .before .before .before .loop .sum + c .before .value .result * c .mean .result ≤ 2 ^ 46
 summed c =
     let pre = c .before .before .before .before .before .before .pre in
-    states-within (loop-again c) _ (pre .0) (λ t. mul-le-mul (upper-most (pre .5) _ _ _ _ _) (pre .6 .most _))
+    states-within (loop-again c) _ (pre .0 .0 .few-states) (λ t. mul-le-mul (upper-most (pre .0 .1) _ _ _ _ _) (pre .0 .2 .most _))
 
 mul-sum : tie.Need-mul-sum Inv-loop μ-loop
 mul-sum c = omega (arith, summed c)
@@ -50,7 +54,7 @@ returns : tie.Need-returns Inv-loop μ-loop
 returns c =
     let pre = c .before .before .before .before .pre in
     let inv = c .before .loop .inv in
-    (states-end inv (c .loop-test .left), states-within inv _ (pre .0) (λ t. mul-le-mul (upper-most (pre .5) _ _ _ _ _) (pre .6 .most _)))
+    (states-end inv (c .loop-test .left), states-within inv _ (pre .0 .0 .few-states) (λ t. mul-le-mul (upper-most (pre .0 .1) _ _ _ _ _) (pre .0 .2 .most _)))
 
 pub steps-two-spec : {M : Type 1} → statement M
 steps-two-spec =
