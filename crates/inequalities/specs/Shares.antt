@@ -1,27 +1,58 @@
--- The margin as the code works it out, from the rows' marks and the block of uppers.
-use Prim.Native.Nat.{ℕ, _*_, _^_, _<_}
+-- The margin as the code works it out, from the rows' marks and the block of uppers; and u − f(u), which every accepted upper leaves.
+use Prim.Native.Nat.{ℕ, _-_, _*_, _/_, _%_, _≤_, _<_}
+use mathlib.Core.Bool.{Bool, true}
 use mathlib.Core.List.{List}
+use mathlib.Core.Path.{_≡_}
 use Rattle.ppda.specs.Sums.{leastTo}
-use Rattle.ppda.specs.Equations.{f}
+use Rattle.ppda.specs.Units.{chanceUnit, sumUnit}
+use Rattle.ppda.specs.Order.{AtEntries}
+use Rattle.ppda.specs.Equations.{Vector, f}
+use Rattle.ppda.specs.Live.{isLive}
 use Rattle.ppda.specs.Margin.{shareAt}
+use Rattle.ppda.specs.Bounds as Bounds
+use Rattle.model.specs.declared.sizes.Sizes.{Sizes}
 use Rattle.model.specs.Rules.{rulesOf}
 use Rattle.delivery.specs.Numbers.{uppersOf}
+use Rattle.delivery.specs.Walks.{Chances}
 use Rattle.live.specs.Exits.{exitMarks}
+use Rattle.rows.specs.Starts.{Indexed}
 
--- An upper u with f(u) = y at an entry with a mark above 0 is greater than f(u).
-abbrev pub StrictAt : ℕ → ℕ → ℕ → Type 0
-StrictAt a u y = 0 < a → y < u * 2 ^ 36
+-- An upper u with f(u) = y at an entry is greater than f(u) if it is live.
+abbrev pub StrictAt : Bool → ℕ → ℕ → Type 0
+StrictAt live u y = live ≡ true → y < u * sumUnit
 
 -- The same at every entry, for the rows' marks a and the uppers of the block u.
 abbrev pub Strict : List ℕ → ℕ → ℕ → List ℕ → List ℕ → Type 0
 Strict b s g a u =
-    (p z q : ℕ) → p < s → z < g → q < s
-    → StrictAt (exitMarks g a p z q) (uppersOf s g u p z q) (f (rulesOf b) s (2 ^ 20) (uppersOf s g u) p z q)
+    AtEntries s g (λ p z q.
+    StrictAt (isLive (exitMarks g a p z q)) (uppersOf s g u p z q) (f (rulesOf b) s chanceUnit (uppersOf s g u) p z q))
 
 -- The part of entry (p, z, q) in the margin.
 abbrev pub shareOf : List ℕ → ℕ → ℕ → List ℕ → List ℕ → ℕ → ℕ → ℕ → ℕ
-shareOf b s g a u p z q = shareAt (exitMarks g a p z q) (uppersOf s g u p z q) (f (rulesOf b) s (2 ^ 20) (uppersOf s g u) p z q)
+shareOf b s g a u p z q =
+    shareAt (isLive (exitMarks g a p z q)) (uppersOf s g u p z q) (f (rulesOf b) s chanceUnit (uppersOf s g u) p z q)
 
--- The least of them.
+-- The least of them and of `top` in row number k.
+abbrev pub leastInRow : ℕ → List ℕ → Sizes → List ℕ → List ℕ → ℕ → ℕ
+leastInRow top b n a u k =
+    leastTo top (shareOf b (n .states) (n .symbols) a u (k / n .symbols) (k % n .symbols)) (n .states)
+
+-- The least of all.
 unfoldable pub leastShare : List ℕ → ℕ → ℕ → List ℕ → List ℕ → ℕ
-leastShare b s g a u = leastTo (2 ^ 20) (λ p. leastTo (2 ^ 20) (λ z. leastTo (2 ^ 20) (shareOf b s g a u p z) s) g) s
+leastShare b s g a u = leastTo chanceUnit (λ p. leastTo chanceUnit (λ z. leastTo chanceUnit (shareOf b s g a u p z) s) g) s
+
+-- What the margin is worked out of: a model with its rows, uppers in range, and marks where they are strict.
+pub record StrictBlock (b : List ℕ) (n : Sizes) (starts a u : List ℕ) : Type 0 where
+  pub indexed : Indexed b n starts
+  pub chances : Chances n u
+  pub strict : Strict b (n .states) (n .symbols) a u
+
+-- u − f(u) at (p, z, q), in 1/2^56, for the uppers u of the block d.
+unfoldable pub gapAt : List ℕ → ℕ → ℕ → List ℕ → Vector
+gapAt b s g d p z q = uppersOf s g d p z q * sumUnit - f (rulesOf b) s chanceUnit (uppersOf s g d) p z q
+
+-- Uppers of a model that stand: each is at least f.
+pub record Standing (b : List ℕ) (n : Sizes) (starts d : List ℕ) : Type 0 where
+  pub indexed : Indexed b n starts
+  pub chances : Chances n d
+  pub above : Bounds.Uppers (rulesOf b) (n .states) (n .symbols) (uppersOf (n .states) (n .symbols) d)

@@ -1,64 +1,60 @@
 // The margin of a delivery's uppers: the least share over the live entries, in 1/2^20.
 
-use super::UNIT;
-use delivery::numbers::value;
-use delivery::shape::rows;
+use delivery::format::CHANCE_UNIT;
+use delivery::format::SUM_UNIT;
+use delivery::record::value_at;
 use equations::chances::f;
-use equations::live::mark;
+use live::exits::is_live;
+use live::exits::mark;
+use model::format::MOST_ROWS;
+use model::sizes::Sizes;
+use rows::STARTS;
 ghost use mathlib.Core.Path.{_≡_};
-ghost use Prim.Native.Nat.{_*_, _/_, _%_, _^_, _≤_, _<_};
-ghost use Rattle.ppda.specs.Sums.{leastTo};
+ghost use Prim.Native.Nat.{_*_, _≤_, _<_};
+ghost use Rattle.ppda.specs.Units.{mostChance, sumUnit};
+ghost use Rattle.ppda.specs.Order.{rowsIn};
 ghost use Rattle.ppda.specs.Margin.{share, shareAt};
-ghost use Rattle.delivery.specs.Walks.{Within};
-ghost use Rattle.rows.specs.Starts.{Starts};
-ghost use Rattle.model.specs.Accepted.{Sized};
-ghost use Rattle.inequalities.specs.Shares.{StrictAt, Strict, shareOf, leastShare};
+ghost use Rattle.inequalities.specs.Shares.{StrictAt, StrictBlock, leastInRow, leastShare};
 
-// 1 in 1/2^20: the part of a dead entry, and the margin where nothing is live.
-const WHOLE: u64 = 1048576;
-
-// 1/2^20 of UNIT: a difference in units divided by u times this is a share in 1/2^20.
-const SHARE_UNIT: u64 = 65536;
+// A difference in units of a sum, divided by u times this, is a share in 1/2^20.
+const SHARE_UNIT: u64 = SUM_UNIT / CHANCE_UNIT;
 
 // The share (u − y) / u of an upper u and f(u) = y, in 1/2^20, rounded down.
 fn share(u: u64, y: u64) -> u64
-    requires { ⌜ (0 < u) × (u ≤ 2097152) × (y ≤ u * 2 ^ 36) ⌝ }
+    requires { ⌜ (0 < u) × (u ≤ mostChance) × (y ≤ u * sumUnit) ⌝ }
     ensures { λ r. ⌜ r ≡ share u y ⌝ }
 {
-    (u * UNIT - y) / (u * SHARE_UNIT)
+    (u * SUM_UNIT - y) / (u * SHARE_UNIT)
 }
 
-// An entry's part in the margin, by its mark.
-fn share_at(live: u64, u: u64, y: u64) -> u64
-    requires { ⌜ (u ≤ 2097152) × StrictAt live u y ⌝ }
+// An entry's part in the margin, by whether it is live. A dead one leaves the margin as it is.
+fn share_at(live: bool, u: u64, y: u64) -> u64
+    requires { ⌜ (u ≤ mostChance) × StrictAt live u y ⌝ }
     ensures { λ r. ⌜ r ≡ shareAt live u y ⌝ }
 {
-    if live == 0 {
-        return WHOLE;
-    }
-    share(u, y)
+    if live { share(u, y) } else { CHANCE_UNIT }
 }
 
 // The least of `least` and the shares of a row, by its number.
 fn least_of_row(
     model: &[u8],
-    starts: &[u16; 129],
-    live: &[u8; 128],
+    starts: &[u16; STARTS],
+    live: &[u8; MOST_ROWS],
     uppers: &[u8],
-    s: usize,
-    g: usize,
+    n: Sizes,
     row: usize,
     least: u64,
 ) -> u64
-    requires { ⌜ Sized (now model) s g × Starts (now model) g (s * g) (now starts) × Within (now uppers) (s * g * s) 2097152 × Strict (now model) s g (now live) (now uppers) × (row < s * g) ⌝ }
-    ensures { λ r. ⌜ r ≡ leastTo least (shareOf (now (model .entry)) s g (now (live .entry)) (now (uppers .entry)) (row / g) (row % g)) s ⌝ }
+    requires { ⌜ StrictBlock (now model) n (now starts) (now live) (now uppers) × (row < rowsIn (n .states) (n .symbols)) ⌝ }
+    ensures { λ r. ⌜ r ≡ leastInRow least (now (model .entry)) n (now (live .entry)) (now (uppers .entry)) row ⌝ }
 {
-    let at = row * s;
+    let s = n.states;
     let mut least = least;
     let mut q = 0;
     while q < s {
-        let y = f(model, starts, uppers, s, g, row, q);
-        let share = share_at(mark(live, row, q), value(uppers, at + q), y);
+        let e = n.entry_in(row, q);
+        let y = f(model, starts, uppers, n, row, q);
+        let share = share_at(is_live(mark(live, row, q)), value_at(uppers, e), y);
         least = if share < least { share } else { least };
         q += 1;
     }
@@ -68,20 +64,19 @@ fn least_of_row(
 // The margin: the least share over the live entries, and 2^20 where nothing is live.
 pub fn margin_of(
     model: &[u8],
-    starts: &[u16; 129],
-    live: &[u8; 128],
+    starts: &[u16; STARTS],
+    live: &[u8; MOST_ROWS],
     uppers: &[u8],
-    s: usize,
-    g: usize,
+    n: Sizes,
 ) -> u64
-    requires { ⌜ Sized (now model) s g × Starts (now model) g (s * g) (now starts) × Within (now uppers) (s * g * s) 2097152 × Strict (now model) s g (now live) (now uppers) ⌝ }
-    ensures { λ r. ⌜ r ≡ leastShare (now (model .entry)) s g (now (live .entry)) (now (uppers .entry)) ⌝ }
+    requires { ⌜ StrictBlock (now model) n (now starts) (now live) (now uppers) ⌝ }
+    ensures { λ r. ⌜ r ≡ leastShare (now (model .entry)) (n .states) (n .symbols) (now (live .entry)) (now (uppers .entry)) ⌝ }
 {
-    let n = rows(s, g);
-    let mut least = WHOLE;
+    let rows = n.rows();
+    let mut least = CHANCE_UNIT;
     let mut k = 0;
-    while k < n {
-        least = least_of_row(model, starts, live, uppers, s, g, k, least);
+    while k < rows {
+        least = least_of_row(model, starts, live, uppers, n, k, least);
         k += 1;
     }
     least

@@ -1,23 +1,28 @@
 // The tests 24 and 26: a number against f at its entry, in 1/2^56.
 
-use super::UNIT;
-use delivery::numbers::value;
-use delivery::shape::rows;
+use delivery::format::SUM_UNIT;
+use delivery::record::value_at;
 use equations::chances::f;
-use equations::live::mark;
+use live::exits::is_live;
+use live::exits::mark;
+use model::format::MOST_ROWS;
+use model::sizes::Sizes;
 use outcome::Outcome;
 use outcome::Reason;
 use outcome::difference;
+use rows::STARTS;
 ghost use mathlib.Core.Path.{_≡_};
 ghost use mathlib.Core.List.{[], _∷_};
-ghost use Prim.Native.Nat.{_*_, _/_, _%_, _^_, _≤_, _<_};
-ghost use Rattle.outcome.specs.Tests.{first, each};
-ghost use Rattle.delivery.specs.Layout.{eachEntry};
-ghost use Rattle.delivery.specs.Walks.{Within};
-ghost use Rattle.rows.specs.Starts.{Starts};
-ghost use Rattle.model.specs.Accepted.{Sized};
+ghost use Prim.Native.Nat.{_^_, _≤_, _<_};
+ghost use Rattle.outcome.specs.Tests.{first};
+ghost use Rattle.ppda.specs.Units.{mostChance};
+ghost use Rattle.ppda.specs.Order.{rowsIn};
+ghost use Rattle.model.specs.Format.{mostEntries};
+ghost use Rattle.model.specs.Sizes.{Fits};
+ghost use Rattle.delivery.specs.Walks.{Chances};
+ghost use Rattle.rows.specs.Starts.{Indexed};
 ghost use Rattle.inequalities.specs.Inequalities.{upperTest, lowerTest};
-ghost use Rattle.inequalities.specs.Walks.{sideTest, sideAt};
+ghost use Rattle.inequalities.specs.Walks.{sideTest, sideFrom, sideRow, sideBlock};
 
 // Which side of the equations a number stands on: at least f; above f at a live entry; at most f.
 pub enum Side {
@@ -27,12 +32,12 @@ pub enum Side {
 }
 
 // u against f(u) = y: a missed inequality has the shortfall u − y.
-fn check_upper(strict: bool, live: u64, u: u64, y: u64, place: usize) -> Outcome
-    requires { ⌜ (u ≤ 2097152) × (y ≤ 2 ^ 61) ⌝ }
+fn check_upper(strict: bool, live: bool, u: u64, y: u64, place: usize) -> Outcome
+    requires { ⌜ (u ≤ mostChance) × (y ≤ 2 ^ 61) ⌝ }
     ensures { λ r. ⌜ r ≡ first (upperTest strict live u y place ∷ []) ⌝ }
 {
-    let have = u * UNIT;
-    if (have < y) | (strict & ((live == 1) & (have <= y))) {
+    let have = u * SUM_UNIT;
+    if (have < y) | (strict & (live & (have <= y))) {
         return Outcome::Refused {
             reason: Reason::UpperTooSmall,
             place,
@@ -44,10 +49,10 @@ fn check_upper(strict: bool, live: u64, u: u64, y: u64, place: usize) -> Outcome
 
 // l against f(l) = y: a missed inequality has the shortfall y − l.
 fn check_lower(l: u64, y: u64, place: usize) -> Outcome
-    requires { ⌜ (l ≤ 2097152) × (y ≤ 2 ^ 61) ⌝ }
+    requires { ⌜ (l ≤ mostChance) × (y ≤ 2 ^ 61) ⌝ }
     ensures { λ r. ⌜ r ≡ first (lowerTest l y place ∷ []) ⌝ }
 {
-    let need = l * UNIT;
+    let need = l * SUM_UNIT;
     if y < need {
         return Outcome::Refused {
             reason: Reason::LowerTooLarge,
@@ -58,9 +63,9 @@ fn check_lower(l: u64, y: u64, place: usize) -> Outcome
     Outcome::Accepted
 }
 
-// One number v with its mark and f = y.
-fn check_side(side: Side, live: u64, v: u64, y: u64, place: usize) -> Outcome
-    requires { ⌜ (v ≤ 2097152) × (y ≤ 2 ^ 61) ⌝ }
+// One number v that is live or not, and f = y.
+fn check_side(side: Side, live: bool, v: u64, y: u64, place: usize) -> Outcome
+    requires { ⌜ (v ≤ mostChance) × (y ≤ 2 ^ 61) ⌝ }
     ensures { λ r. ⌜ r ≡ first (sideTest side live v y place ∷ []) ⌝ }
 {
     match side {
@@ -70,32 +75,40 @@ fn check_side(side: Side, live: u64, v: u64, y: u64, place: usize) -> Outcome
     }
 }
 
-// The numbers of a row, by its number. The block starts at record `from`.
+// The record at which the block of a side starts.
+fn first_record(side: Side, n: Sizes) -> usize
+    requires { ⌜ Fits (n .states) (n .symbols) ⌝ }
+    ensures { λ r. ⌜ (r ≡ sideFrom side (n .states) (n .symbols)) × (r ≤ mostEntries) ⌝ }
+{
+    match side {
+        Side::Upper => 0,
+        Side::StrictUpper => 0,
+        Side::Lower => n.entries(),
+    }
+}
+
+// The numbers of a row, by its number.
 fn check_row(
     side: Side,
     model: &[u8],
-    starts: &[u16; 129],
-    live: &[u8; 128],
+    starts: &[u16; STARTS],
+    live: &[u8; MOST_ROWS],
     block: &[u8],
-    s: usize,
-    g: usize,
+    n: Sizes,
     row: usize,
-    from: usize,
 ) -> Outcome
-    requires { ⌜ Sized (now model) s g × Starts (now model) g (s * g) (now starts) × Within (now block) (s * g * s) 2097152 × (row < s * g) × (from ≤ 1024) ⌝ }
-    ensures { λ r. ⌜ r ≡ first (each s (sideAt side (now (model .entry)) s g (now (live .entry)) (now (block .entry)) from (row / g) (row % g))) ⌝ }
+    requires files { ⌜ Indexed (now model) n (now starts) × Chances n (now block) ⌝ }
+    requires inside { ⌜ row < rowsIn (n .states) (n .symbols) ⌝ }
+    ensures { λ r. ⌜ r ≡ first (sideRow side (now (model .entry)) n (now (live .entry)) (now (block .entry)) row) ⌝ }
 {
-    let at = row * s;
+    let from = first_record(side, n);
+    let s = n.states;
     let mut q = 0;
     while q < s {
-        let y = f(model, starts, block, s, g, row, q);
-        let found = check_side(
-            side,
-            mark(live, row, q),
-            value(block, at + q),
-            y,
-            from + (at + q),
-        );
+        let e = n.entry_in(row, q);
+        let y = f(model, starts, block, n, row, q);
+        let live = is_live(mark(live, row, q));
+        let found = check_side(side, live, value_at(block, e), y, from + e);
         if let Outcome::Refused { .. } = found {
             return found;
         }
@@ -104,24 +117,22 @@ fn check_row(
     Outcome::Accepted
 }
 
-// The numbers of a block, which starts at record `from`, each against f at its entry.
+// The numbers of the block of a side, each against f at its entry.
 pub fn check(
     side: Side,
     model: &[u8],
-    starts: &[u16; 129],
-    live: &[u8; 128],
+    starts: &[u16; STARTS],
+    live: &[u8; MOST_ROWS],
     block: &[u8],
-    s: usize,
-    g: usize,
-    from: usize,
+    n: Sizes,
 ) -> Outcome
-    requires { ⌜ Sized (now model) s g × Starts (now model) g (s * g) (now starts) × Within (now block) (s * g * s) 2097152 × (from ≤ 1024) ⌝ }
-    ensures { λ r. ⌜ r ≡ first (eachEntry s g (sideAt side (now (model .entry)) s g (now (live .entry)) (now (block .entry)) from)) ⌝ }
+    requires { ⌜ Indexed (now model) n (now starts) × Chances n (now block) ⌝ }
+    ensures { λ r. ⌜ r ≡ first (sideBlock side (now (model .entry)) n (now (live .entry)) (now (block .entry))) ⌝ }
 {
-    let n = rows(s, g);
+    let rows = n.rows();
     let mut k = 0;
-    while k < n {
-        let found = check_row(side, model, starts, live, block, s, g, k, from);
+    while k < rows {
+        let found = check_row(side, model, starts, live, block, n, k);
         if let Outcome::Refused { .. } = found {
             return found;
         }

@@ -12,6 +12,7 @@ ghost use Prim.Native.Nat.{ℕ, _^_, _≤_, _<_};
 ghost use lib.ListN.{getD};
 ghost use Rattle.ppda.specs.Sums.{sign, sumTo};
 ghost use Rattle.ppda.specs.Order.{rowsIn};
+ghost use Rattle.ppda.specs.Live.{isLive};
 ghost use Rattle.model.specs.Format.{mostStates, mostRows};
 ghost use Rattle.model.specs.Records.{recordsOf};
 ghost use Rattle.model.specs.Accepted.{Sized};
@@ -42,6 +43,13 @@ pub fn mark(live: &[u8; MOST_ROWS], row: usize, q: usize) -> u64
     ensures { λ r. ⌜ (r ≡ bitOf (getD (now (live .entry)) row 0) q) × (r ≤ 1) ⌝ }
 {
     bit(live[row], q) as u64
+}
+
+// Whether a mark says that its entry is live.
+pub fn is_live(mark: u64) -> bool
+    ensures { λ r. ⌜ r ≡ isLive mark ⌝ }
+{
+    0 < mark
 }
 
 // The exits of two symbols: those of x after each exit t of the first.

@@ -8,7 +8,7 @@ use super::record::top;
 use super::record::under;
 ghost use mathlib.Core.Path.{_≡_};
 ghost use Prim.Native.Nat.{_≤_, _<_, max};
-ghost use Rattle.ppda.specs.Order.{rowsIn, entriesIn, rowAt, entryAt};
+ghost use Rattle.ppda.specs.Order.{rowsIn, entriesIn, rowAt, entryIn, entryAt};
 ghost use Rattle.model.specs.Format.{mostRows, mostEntries};
 ghost use Rattle.model.specs.Records.{HasRecord, recordsOf, stateNamed, symbolNamed, statesOf, symbolsOf};
 ghost use Rattle.model.specs.Sizes.{sizesOf, Fits, Narrow};
@@ -33,7 +33,7 @@ impl Sizes {
         requires { ⌜ Fits (self .states) (self .symbols) ⌝ }
         ensures { λ r. ⌜ (r ≡ entriesIn (self .states) (self .symbols)) × (r ≤ mostEntries) ⌝ }
     {
-        self.states * self.symbols * self.states
+        self.rows() * self.states
     }
 
     // The number of a row.
@@ -44,12 +44,20 @@ impl Sizes {
         p * self.symbols + z
     }
 
+    // The number of the entry with exit q of a row, by the row's number.
+    pub fn entry_in(self, row: usize, q: usize) -> usize
+        requires { ⌜ Narrow (self .states) (self .symbols) × (row < rowsIn (self .states) (self .symbols)) × (q < self .states) ⌝ }
+        ensures { λ r. ⌜ (r ≡ entryIn (self .states) row q) × (r < entriesIn (self .states) (self .symbols)) ⌝ }
+    {
+        row * self.states + q
+    }
+
     // The number of an entry.
     pub fn entry(self, p: usize, z: usize, q: usize) -> usize
         requires { ⌜ Narrow (self .states) (self .symbols) × (p < self .states) × (z < self .symbols) × (q < self .states) ⌝ }
         ensures { λ r. ⌜ (r ≡ entryAt (self .states) (self .symbols) p z q) × (r < entriesIn (self .states) (self .symbols)) ⌝ }
     {
-        (p * self.symbols + z) * self.states + q
+        self.entry_in(self.row(p, z), q)
     }
 }
 

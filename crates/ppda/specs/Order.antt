@@ -8,12 +8,15 @@ rowsIn s g = s * g
 abbrev pub entriesIn : ℕ → ℕ → ℕ
 entriesIn s g = rowsIn s g * s
 
--- The number of the row (p, z) among them, and of the entry (p, z, q).
+-- The number of the row (p, z) among them, of the entry with exit q of row number k, and so of the entry (p, z, q).
 abbrev pub rowAt : ℕ → ℕ → ℕ → ℕ
 rowAt g p z = p * g + z
 
+abbrev pub entryIn : ℕ → ℕ → ℕ → ℕ
+entryIn s k q = k * s + q
+
 abbrev pub entryAt : ℕ → ℕ → ℕ → ℕ → ℕ → ℕ
-entryAt s g p z q = rowAt g p z * s + q
+entryAt s g p z q = entryIn s (rowAt g p z) q
 
 -- A statement about every row, and about every entry.
 abbrev pub AtRows : ℕ → ℕ → (ℕ → ℕ → Type 0) → Type 0

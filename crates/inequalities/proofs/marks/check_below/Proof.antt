@@ -20,11 +20,11 @@ abbrev μ-loop : tie.MeasureT-loop
 loop-holds : tie.Need-loop-holds Inv-loop μ-loop
 loop-holds c = (search needs, each-none _)
 
-value-requires : tie.Need-value-requires Inv-loop μ-loop
-value-requires c κs = search needs
+value-at-requires : tie.Need-value-at-requires Inv-loop μ-loop
+value-at-requires c κs = search needs
 
-value-requires-2 : tie.Need-value-requires-2 Inv-loop μ-loop
-value-requires-2 c κs = search needs
+value-at-requires-2 : tie.Need-value-at-requires-2 Inv-loop μ-loop
+value-at-requires-2 c κs = search needs
 
 add-refused : tie.Need-add-refused Inv-loop μ-loop
 add-refused c = search needs
@@ -34,7 +34,7 @@ refused-requires c κs = search needs
 
 returns : tie.Need-returns Inv-loop μ-loop
 returns c =
-    let fails = rw (c .before .before .before .value .ensures .0, c .before .before .value2 .ensures .0) at (c .before .if1 .taken) in
+    let fails = rw (c .before .before .before .value-at .ensures .0, c .before .before .value-at2 .ensures .0) at (c .before .if1 .taken) in
     each-refused _ _ _ _ (omega arith) (c .before .before .before .before .before .loop .inv .1)
     (c .refused .ensures ∙ sym (below-fails _ _ _ fails)) (c .refused .ensures)
 
@@ -46,7 +46,7 @@ loop-less c = search needs
 
 loop-again : tie.Need-loop-again Inv-loop μ-loop
 loop-again c =
-    let passes = rw (c .before .before .value .ensures .0, c .before .value2 .ensures .0) at (c .if1 .left) in
+    let passes = rw (c .before .before .value-at .ensures .0, c .before .value-at2 .ensures .0) at (c .if1 .left) in
     (omega arith, each-more _ _ (c .before .before .before .before .loop .inv .1) (below-passes _ _ _ passes))
 
 returns-2 : tie.Need-returns-2 Inv-loop μ-loop
@@ -59,8 +59,8 @@ check-below-spec =
     Inv-loop
     μ-loop
     loop-holds
-    value-requires
-    value-requires-2
+    value-at-requires
+    value-at-requires-2
     add-refused
     refused-requires
     returns

@@ -6,31 +6,28 @@ use mathlib.Core.Path.{_≡_, sym, ap, _∙_}
 use denote.Ref.{now}
 use borrow.Author.Needs.{needs}
 use Rattle.outcome.proofs.Tests.{each-none, each-more, each-refused, each-end}
-use Rattle.outcome.specs.Tests.{Test, first, each}
+use Rattle.outcome.specs.Tests.{first, each}
 use Rattle.outcome.specs.declared.Outcome.the-variants.{Accepted}
-use Rattle.delivery.specs.Layout.{eachEntry}
+use Rattle.ppda.specs.Order.{rowsIn}
+use Rattle.model.specs.Format.{mostRows}
 use Rattle.delivery.proofs.Walks.{entries-by-row}
-use Rattle.inequalities.specs.Walks.{deadAt}
+use Rattle.inequalities.specs.Walks.{deadRow, deadBlock}
 use Rattle.inequalities.proofs.marks.check_dead.Statement.{statement}
 use Rattle.inequalities.proofs.marks.check_dead.Tie as tie
 
--- The tests of row number k.
-abbrev rowTests : ℕ → ℕ → List ℕ → List ℕ → ℕ → ℕ → List Test
-rowTests s g a d from k = each s (deadAt s g a d from (k / g) (k % g))
-
 abbrev Inv-loop : tie.InvT-loop
-Inv-loop live block s g from n k₀ k =
-    (k ≤ n) × (n ≡ s * g) × (n ≤ 128) × (first (each k (rowTests s g live block from)) ≡ Accepted)
+Inv-loop live block n from rows k₀ k =
+    (k ≤ rows) × (rows ≡ rowsIn (n .states) (n .symbols)) × (rows ≤ mostRows) × (first (each k (deadRow n live block from)) ≡ Accepted)
 
 abbrev μ-loop : tie.MeasureT-loop
-μ-loop live block s g from n k₀ k = n - k
+μ-loop live block n from rows k₀ k = rows - k
 
 -- The tests of all rows are those of all entries.
 walked : (c : tie.Start Inv-loop μ-loop)
     → let args = c .args in
-    let test = deadAt (args .s) (args .g) (now (args .live)) (now (args .block)) (args .from) in
-    each (args .s * args .g) (λ k. each (args .s) (test (k / args .g) (k % args .g))) ≡ eachEntry (args .s) (args .g) test
-walked c = sym (entries-by-row (c .args .s) (c .args .g) _ (c .pre .1))
+    each (rowsIn (args .n .states) (args .n .symbols)) (deadRow (args .n) (now (args .live)) (now (args .block)) (args .from))
+    ≡ deadBlock (args .n) (now (args .live)) (now (args .block)) (args .from)
+walked c = sym (entries-by-row (c .args .n .states) (c .args .n .symbols) _ (c .pre .0 .0 .some-symbols))
 
 rows-requires : tie.Need-rows-requires Inv-loop μ-loop
 rows-requires c κs = search needs

@@ -8,62 +8,63 @@ use borrow.Author.Needs.{needs}
 use Rattle.outcome.proofs.Tests.{each-none, each-more, each-refused, each-end}
 use Rattle.outcome.specs.Tests.{Test, first, each}
 use Rattle.outcome.specs.declared.Outcome.the-variants.{Accepted}
-use Rattle.delivery.specs.Layout.{eachRow}
 use Rattle.delivery.proofs.Walks.{rows-by-number}
-use Rattle.rows.proofs.Ranges.{few-states, few-symbols, some-symbols}
-use Rattle.inequalities.specs.Walks.{meanAt}
+use Rattle.ppda.specs.Order.{rowsIn}
+use Rattle.model.specs.declared.sizes.Sizes.{Sizes}
+use Rattle.model.specs.Format.{mostRows}
+use Rattle.model.proofs.Accepted.{sized-fits}
+use Rattle.inequalities.specs.Walks.{meanAt, meanBlock}
 use Rattle.inequalities.proofs.Tests.{mean-found}
 use Rattle.inequalities.proofs.means.check.Statement.{statement}
 use Rattle.inequalities.proofs.means.check.Tie as tie
 
 -- The test of row number k.
-abbrev rowTest : List ℕ → ℕ → ℕ → List ℕ → List ℕ → ℕ → ℕ → List Test
-rowTest b s g u r from k = meanAt b s g u r from (k / g) (k % g)
+abbrev rowTest : List ℕ → Sizes → List ℕ → List ℕ → ℕ → ℕ → List Test
+rowTest b n u r from k = meanAt b (n .states) (n .symbols) u r from (k / n .symbols) (k % n .symbols)
 
 abbrev Inv-loop : tie.InvT-loop
-Inv-loop model starts uppers means s g from n k₀ k =
-    (k ≤ n) × (n ≡ s * g) × (n ≤ 128) × (first (each k (rowTest model s g uppers means from)) ≡ Accepted)
+Inv-loop model starts uppers means n from rows k₀ k =
+    (k ≤ rows) × (rows ≡ rowsIn (n .states) (n .symbols)) × (rows ≤ mostRows) × (first (each k (rowTest model n uppers means from)) ≡ Accepted)
 
 abbrev μ-loop : tie.MeasureT-loop
-μ-loop model starts uppers means s g from n k₀ k = n - k
+μ-loop model starts uppers means n from rows k₀ k = rows - k
 
 -- The tests by number are those of all rows.
 walked : (c : tie.Start Inv-loop μ-loop)
     → let args = c .args in
-    let test = meanAt (now (args .model)) (args .s) (args .g) (now (args .uppers)) (now (args .means)) (args .from) in
-    each (args .s * args .g) (λ k. test (k / args .g) (k % args .g)) ≡ eachRow (args .s) (args .g) test
-walked c = sym (rows-by-number (c .args .s) (c .args .g) _ (some-symbols (c .pre .0)))
+    each (rowsIn (args .n .states) (args .n .symbols)) (rowTest (now (args .model)) (args .n) (now (args .uppers)) (now (args .means)) (args .from))
+    ≡ meanBlock (now (args .model)) (args .n) (now (args .uppers)) (now (args .means)) (args .from)
+walked c = sym (rows-by-number (c .args .n .states) (c .args .n .symbols) _ (sized-fits (c .pre .0 .0 .sized) .some-symbols))
 
 -- The outcome found is that of the row's test.
 found : (c : tie.After-check-mean Inv-loop μ-loop)
     → let args = c .before .before .before .before .before .before .before .before .before .args in
     c .check-mean .result
-    ≡ first (rowTest (now (args .model)) (args .s) (args .g) (now (args .uppers)) (now (args .means)) (args .from)
-    (c .before .before .before .before .loop .k))
+    ≡ first (rowTest (now (args .model)) (args .n) (now (args .uppers)) (now (args .means)) (args .from) (c .before .before .before .before .loop .k))
 found c =
     let args = c .before .before .before .before .before .before .before .before .before .args in
-    mean-found (now (args .model)) (args .s) (args .g) (now (args .uppers)) (now (args .means)) (args .from) _
-    (c .before .value .ensures .0) (c .before .before .mean-side .ensures .0) (c .check-mean .ensures)
+    mean-found (now (args .model)) (args .n .states) (args .n .symbols) (now (args .uppers)) (now (args .means)) (args .from) _
+    (c .before .value-at .ensures .0) (c .before .before .mean-side .ensures .0) (c .check-mean .ensures)
 
 rows-requires : tie.Need-rows-requires Inv-loop μ-loop
-rows-requires c κs = (few-states (c .before .before .before .pre .0), few-symbols (c .before .before .before .pre .0))
+rows-requires c κs = sized-fits (c .before .before .before .pre .0 .0 .sized)
 
 loop-holds : tie.Need-loop-holds Inv-loop μ-loop
 loop-holds c = (search needs, c .rows .ensures .0, c .rows .ensures .1, each-none _)
 
 mean-side-requires : tie.Need-mean-side-requires Inv-loop μ-loop
-mean-side-requires c κs = let pre = c .before .before .before .before .before .before .pre in (pre .0, pre .1, pre .2, pre .3, omega arith)
+mean-side-requires c κs = (c .before .before .before .before .before .before .pre .0, omega arith)
 
-value-requires : tie.Need-value-requires Inv-loop μ-loop
-value-requires c κs = omega (arith, c .before .before .before .before .before .before .before .pre .3 .whole)
+value-at-requires : tie.Need-value-at-requires Inv-loop μ-loop
+value-at-requires c κs = omega (arith, c .before .before .before .before .before .before .before .pre .0 .2 .whole)
 
 add-check-mean : tie.Need-add-check-mean Inv-loop μ-loop
 add-check-mean c = search needs
 
 check-mean-requires : tie.Need-check-mean-requires Inv-loop μ-loop
 check-mean-requires c κs =
-    let most = c .before .before .before .before .before .before .before .before .pre .3 .most in
-    (rw (c .value .ensures .0) (most _), c .before .mean-side .ensures .1)
+    let most = c .before .before .before .before .before .before .before .before .pre .0 .2 .most in
+    (rw (c .value-at .ensures .0) (most _), c .before .mean-side .ensures .1)
 
 enum-told : tie.Need-enum-told Inv-loop μ-loop
 enum-told c = search needs
@@ -104,7 +105,7 @@ check-spec =
     rows-requires
     loop-holds
     mean-side-requires
-    value-requires
+    value-at-requires
     add-check-mean
     check-mean-requires
     enum-told

@@ -6,42 +6,38 @@ use mathlib.Core.Path.{_≡_, sym, ap, _∙_}
 use denote.Ref.{now}
 use borrow.Author.Needs.{needs}
 use Rattle.outcome.proofs.Tests.{each-none, each-more, each-refused, each-end}
-use Rattle.outcome.specs.Tests.{Test, first, each}
+use Rattle.outcome.specs.Tests.{first, each}
 use Rattle.outcome.specs.declared.Outcome.the-variants.{Accepted}
-use Rattle.delivery.specs.Layout.{eachEntry}
 use Rattle.delivery.proofs.Walks.{entries-by-row}
-use Rattle.rows.proofs.Ranges.{few-states, few-symbols, some-symbols}
-use Rattle.inequalities.specs.declared.sides.Side.{Side}
-use Rattle.inequalities.specs.Walks.{sideAt}
+use Rattle.ppda.specs.Order.{rowsIn}
+use Rattle.model.specs.Format.{mostRows}
+use Rattle.model.proofs.Accepted.{sized-fits}
+use Rattle.inequalities.specs.Walks.{sideRow, sideBlock}
 use Rattle.inequalities.proofs.sides.check.Statement.{statement}
 use Rattle.inequalities.proofs.sides.check.Tie as tie
 
--- The tests of row number k.
-abbrev rowTests : Side → List ℕ → ℕ → ℕ → List ℕ → List ℕ → ℕ → ℕ → List Test
-rowTests side b s g a d from k = each s (sideAt side b s g a d from (k / g) (k % g))
-
 abbrev Inv-loop : tie.InvT-loop
-Inv-loop side model starts live block s g from n k₀ k =
-    (k ≤ n) × (n ≡ s * g) × (n ≤ 128) × (first (each k (rowTests side model s g live block from)) ≡ Accepted)
+Inv-loop side model starts live block n rows k₀ k =
+    (k ≤ rows) × (rows ≡ rowsIn (n .states) (n .symbols)) × (rows ≤ mostRows) × (first (each k (sideRow side model n live block)) ≡ Accepted)
 
 abbrev μ-loop : tie.MeasureT-loop
-μ-loop side model starts live block s g from n k₀ k = n - k
+μ-loop side model starts live block n rows k₀ k = rows - k
 
 -- The tests of all rows are those of all entries.
 walked : (c : tie.Start Inv-loop μ-loop)
     → let args = c .args in
-    let test = sideAt (args .side) (now (args .model)) (args .s) (args .g) (now (args .live)) (now (args .block)) (args .from) in
-    each (args .s * args .g) (λ k. each (args .s) (test (k / args .g) (k % args .g))) ≡ eachEntry (args .s) (args .g) test
-walked c = sym (entries-by-row (c .args .s) (c .args .g) _ (some-symbols (c .pre .0)))
+    each (rowsIn (args .n .states) (args .n .symbols)) (sideRow (args .side) (now (args .model)) (args .n) (now (args .live)) (now (args .block)))
+    ≡ sideBlock (args .side) (now (args .model)) (args .n) (now (args .live)) (now (args .block))
+walked c = sym (entries-by-row (c .args .n .states) (c .args .n .symbols) _ (sized-fits (c .pre .0 .sized) .some-symbols))
 
 rows-requires : tie.Need-rows-requires Inv-loop μ-loop
-rows-requires c κs = (few-states (c .before .before .pre .0), few-symbols (c .before .before .pre .0))
+rows-requires c κs = sized-fits (c .before .before .pre .0 .sized)
 
 loop-holds : tie.Need-loop-holds Inv-loop μ-loop
 loop-holds c = (search needs, c .rows .ensures .0, c .rows .ensures .1, each-none _)
 
 check-row-requires : tie.Need-check-row-requires Inv-loop μ-loop
-check-row-requires c κs = let pre = c .before .before .before .before .before .pre in (pre .0, pre .1, pre .2, omega arith, pre .3)
+check-row-requires c κs = (c .before .before .before .before .before .pre, omega arith)
 
 enum-told : tie.Need-enum-told Inv-loop μ-loop
 enum-told c = search needs

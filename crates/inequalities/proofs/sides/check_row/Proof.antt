@@ -1,5 +1,5 @@
 -- `check_row`: the loop returns at the first entry that is refused, after every entry before it has passed.
-use Prim.Native.Nat.{_+_, _*_, _/_, _%_, _-_, _≤_, _<_}
+use Prim.Native.Nat.{_+_, _/_, _%_, _-_, _≤_}
 use native.Mathlib.Omega.{arith}
 use mathlib.Core.Path.{_≡_, sym, _∙_}
 use denote.Ref.{now}
@@ -7,84 +7,76 @@ use borrow.Author.Needs.{needs}
 use Rattle.outcome.proofs.Tests.{each-none, each-more, each-refused, each-end}
 use Rattle.outcome.specs.Tests.{first, each}
 use Rattle.outcome.specs.declared.Outcome.the-variants.{Accepted}
-use Rattle.rows.proofs.Ranges.{place, few-states, few-symbols, few-rows}
+use Rattle.model.proofs.Records.{fits-narrow}
+use Rattle.model.proofs.Accepted.{sized-fits}
 use Rattle.inequalities.specs.Walks.{sideAt}
-use Rattle.inequalities.proofs.Tests.{entry-within, side-found}
+use Rattle.inequalities.proofs.Tests.{side-found}
 use Rattle.inequalities.proofs.sides.check_row.Statement.{statement}
 use Rattle.inequalities.proofs.sides.check_row.Tie as tie
 
 abbrev Inv-loop : tie.InvT-loop
-Inv-loop side model starts live block s g row from at q₀ q =
-    (q ≤ s) × (first (each q (sideAt side model s g live block from (row / g) (row % g))) ≡ Accepted)
+Inv-loop side model starts live block n row from s q₀ q =
+    (q ≤ s) × (first (each q (sideAt side model (n .states) (n .symbols) live block (row / n .symbols) (row % n .symbols))) ≡ Accepted)
 
 abbrev μ-loop : tie.MeasureT-loop
-μ-loop side model starts live block s g row from at q₀ q = s - q
-
--- The sizes of an accepted model.
-sizes : (c : tie.Start Inv-loop μ-loop) → (c .args .s < 9) × (c .args .row < 128)
-sizes c = omega (arith, few-states (c .pre .0), few-rows (c .pre .0))
-
--- The entry's place is one of the block's, which are at most 1,024.
-within : (c : tie.In-loop Inv-loop μ-loop)
-    → let args = c .before .before .before .before .args in
-    let at = args .row * args .s + c .before .loop .q in (at < args .s * args .g * args .s) × (at < 1024)
-within c =
-    let pre = c .before .before .before .before .pre in
-    entry-within _ _ _ _ (few-states (pre .0)) (few-symbols (pre .0)) (pre .3) (c .loop-test .taken)
+μ-loop side model starts live block n row from s q₀ q = s - q
 
 -- The outcome found is that of the entry's test.
 found : (c : tie.After-check-side Inv-loop μ-loop)
-    → let args = c .before .before .before .before .before .before .before .before .args in
+    → let args = c .before .before .before .before .before .before .before .before .before .before .before .args in
     c .check-side .result
-    ≡ first (sideAt (args .side) (now (args .model)) (args .s) (args .g) (now (args .live)) (now (args .block)) (args .from)
-    (args .row / args .g) (args .row % args .g) (c .before .before .before .before .before .loop .q))
+    ≡ first (sideAt (args .side) (now (args .model)) (args .n .states) (args .n .symbols) (now (args .live)) (now (args .block))
+    (args .row / args .n .symbols) (args .row % args .n .symbols) (c .before .before .before .before .before .before .before .loop .q))
 found c =
-    let args = c .before .before .before .before .before .before .before .before .args in
-    side-found (args .s) (args .g) (now (args .live)) (now (args .block)) (args .from) (args .row) _
-    (c .before .before .mark .ensures .0) (c .before .value .ensures .0) (args .side)
-    (now (args .model)) (c .before .before .before .f .ensures .0) (c .check-side .ensures)
+    let args = c .before .before .before .before .before .before .before .before .before .before .before .args in
+    side-found (args .n .states) (args .n .symbols) (now (args .live)) (now (args .block)) (args .row) _
+    (c .before .before .is-live .ensures) (c .before .before .before .mark .ensures .0) (c .before .value-at .ensures .0)
+    (c .before .before .before .before .before .entry-in .ensures .0) (args .side) (now (args .model)) (c .before .before .before .before .f .ensures .0) (c .before .before .before .before .before .before .before .before .first-record .ensures .0)
+    (c .check-side .ensures)
 
-mul-at : tie.Need-mul-at Inv-loop μ-loop
-mul-at c = let few = sizes (c .before .before) in omega (arith, place _ _ 0 (few .1) (few .0) (omega arith))
+first-record-requires : tie.Need-first-record-requires Inv-loop μ-loop
+first-record-requires c κs = sized-fits (c .before .before .pre .0 .0 .sized)
 
 loop-holds : tie.Need-loop-holds Inv-loop μ-loop
 loop-holds c = (search needs, each-none _)
 
+entry-in-requires : tie.Need-entry-in-requires Inv-loop μ-loop
+entry-in-requires c κs = let pre = c .before .before .before .before .before .pre in (fits-narrow (sized-fits (pre .0 .0 .sized)), pre .1, c .loop-test .taken)
+
 f-requires : tie.Need-f-requires Inv-loop μ-loop
-f-requires c κs = let pre = c .before .before .before .before .pre in (pre .0, pre .1, pre .2, pre .3, c .loop-test .taken)
+f-requires c κs = let pre = c .before .before .before .before .before .before .pre in (pre .0, (pre .1, c .before .loop-test .taken))
 
 mark-requires : tie.Need-mark-requires Inv-loop μ-loop
-mark-requires c κs = omega (arith, sizes (c .before .before .before .before .before))
+mark-requires c κs =
+    let pre = c .before .before .before .before .before .before .before .pre in
+    let fits = sized-fits (pre .0 .0 .sized) in
+    (omega (arith, pre .1), omega arith)
 
-add-value : tie.Need-add-value Inv-loop μ-loop
-add-value c = omega (arith, within (c .before .before))
+is-live-requires : tie.Need-is-live-requires Inv-loop μ-loop
+is-live-requires c κs = search needs
 
-value-requires : tie.Need-value-requires Inv-loop μ-loop
-value-requires c κs = omega (arith, within (c .before .before), c .before .before .before .before .before .before .pre .2 .whole)
+value-at-requires : tie.Need-value-at-requires Inv-loop μ-loop
+value-at-requires c κs = omega (arith, c .before .before .before .entry-in .ensures .1, c .before .before .before .before .before .before .before .before .before .pre .0 .1 .whole)
 
 add-check-side : tie.Need-add-check-side Inv-loop μ-loop
-add-check-side c = omega (arith, within (c .before .before .before))
-
-add-check-side-2 : tie.Need-add-check-side-2 Inv-loop μ-loop
-add-check-side-2 c = omega (arith, within (c .before .before .before))
+add-check-side c =
+    omega (arith, c .before .before .before .before .entry-in .ensures .1, c .before .before .before .before .before .before .before .first-record .ensures .1, sized-fits (c .before .before .before .before .before .before .before .before .before .before .pre .0 .0 .sized) .few-entries)
 
 check-side-requires : tie.Need-check-side-requires Inv-loop μ-loop
-check-side-requires c κs =
-    (rw (c .value .ensures .0) (c .before .before .before .before .before .before .before .pre .2 .most _), c .before .before .f .ensures .1)
+check-side-requires c κs = (rw (c .value-at .ensures .0) (c .before .before .before .before .before .before .before .before .before .before .pre .0 .1 .most _), c .before .before .before .f .ensures .1)
 
 enum-told : tie.Need-enum-told Inv-loop μ-loop
 enum-told c = search needs
 
 returns : tie.Need-returns Inv-loop μ-loop
 returns c =
-    each-refused _ _ _ _ (c .before .before .before .before .before .before .loop-test .taken)
-    (c .before .before .before .before .before .before .before .loop .inv .1) (found (c .before .before)) (c .enum-told .given .1)
+    each-refused _ _ _ _ (c .before .before .before .before .before .before .before .before .loop-test .taken) (c .before .before .before .before .before .before .before .before .before .loop .inv .1) (found (c .before .before)) (c .enum-told .given .1)
 
 enum-told-2 : tie.Need-enum-told-2 Inv-loop μ-loop
 enum-told-2 c = search needs
 
 add-q : tie.Need-add-q Inv-loop μ-loop
-add-q c = omega (arith, sizes (c .before .before .before .before .before .before .before .before .before .before))
+add-q c = search needs
 
 loop-less : tie.Need-loop-less Inv-loop μ-loop
 loop-less c = search needs
@@ -92,8 +84,7 @@ loop-less c = search needs
 loop-again : tie.Need-loop-again Inv-loop μ-loop
 loop-again c = (
   omega arith,
-  each-more _ _ (c .before .before .before .before .before .before .before .loop .inv .1)
-      (sym (found (c .before .before)) ∙ c .enum-told2 .given .1),
+  each-more _ _ (c .before .before .before .before .before .before .before .before .before .loop .inv .1) (sym (found (c .before .before)) ∙ c .enum-told2 .given .1),
 )
 
 returns-2 : tie.Need-returns-2 Inv-loop μ-loop
@@ -105,14 +96,14 @@ check-row-spec =
     (tie.spec
     Inv-loop
     μ-loop
-    mul-at
+    first-record-requires
     loop-holds
+    entry-in-requires
     f-requires
     mark-requires
-    add-value
-    value-requires
+    is-live-requires
+    value-at-requires
     add-check-side
-    add-check-side-2
     check-side-requires
     enum-told
     returns
