@@ -1,13 +1,13 @@
 -- A number below 2^32 is told by its four bytes, and four bytes by their number: `omega` shows both from quotients and remainders by 256.
-use Prim.Native.Nat.{ℕ, zero, suc, _+_, _*_, _/_, _%_, _≤_, _<_, _^_}
+use Prim.Native.Nat.{ℕ, suc, _+_, _*_, _/_, _%_, _≤_, _<_, _^_}
 use native.Mathlib.Nat.{add-zero, add-assoc, mod-add-div, mod-eq-of-lt, div-div-eq-div-mul}
 use native.Mathlib.Numerals.{add-one}
 use native.Mathlib.Omega.{arith}
-use mathlib.Core.List.{List, [], _∷_, _++_}
-use mathlib.Core.Path.{_≡_, refl, sym, ap, ap₂, _∙_}
-use lib.ListN.{length, getD, take, drop, length-append, List·getD-append}
-use lib.Seq.{drop-cons, getD-append-add, take-add, drop-drop}
-use Rattle.words.specs.Words.{wordAt, fourBytes, Bytes}
+use mathlib.Core.List.{List, [], _∷_, _++_, append-assoc}
+use mathlib.Core.Path.{_≡_, refl, sym, ap, _∙_}
+use lib.ListN.{length, getD, take, drop, set}
+use lib.Seq.{length-take-le, drop-cons, getD-append-add, take-add, drop-drop, sets-eq}
+use Rattle.words.specs.Words.{wordAt, fourBytes, written, Bytes}
 
 -- ---- parts of a file
 
@@ -80,4 +80,28 @@ made-word b at bytes h =
     ∙ sym four
   where
     four : take 4 (drop at b) ≡ getD b at 0 ∷ getD b (at + 1) 0 ∷ getD b (at + 2) 0 ∷ getD b (at + 3) 0 ∷ []
-    four = rw (part-next b at 3 (omega arith), part-next b (at + 1) 2 (omega arith), add-assoc, part-next b (at + 2) 1 (omega arith), add-assoc, part-next b (at + 3) 0 (omega arith))
+    four =
+        rw (
+          part-next b at 3 (omega arith),
+          part-next b (at + 1) 2 (omega arith),
+          add-assoc,
+          part-next b (at + 2) 1 (omega arith),
+          add-assoc,
+          part-next b (at + 3) 0 (omega arith),
+        )
+
+-- ---- four bytes in their places, one after the other
+
+pub put-four : (l : List ℕ) (at a b c d : ℕ) → at + 3 < length l
+    → set (set (set (set l at a) (at + 1) b) (at + 2) c) (at + 3) d ≡ written l at (a ∷ b ∷ c ∷ d ∷ [])
+put-four l at a b c d h =
+    let e₁ : at + 1 ≡ suc at = omega arith in
+    let e₂ : at + 2 ≡ suc (suc at) = omega arith in
+    let e₃ : at + 3 ≡ suc (suc (suc at)) = omega arith in
+    rw (e₁, e₂, e₃) (sets-eq (a ∷ b ∷ c ∷ d ∷ []) l at (omega arith))
+    ∙ append-assoc (take at l) (a ∷ b ∷ c ∷ d ∷ []) (drop (at + 4) l)
+
+-- Reading what was written.
+pub word-written : (l : List ℕ) (at n : ℕ) → n < 2 ^ 32 → at ≤ length l → wordAt (written l at (fourBytes n)) at ≡ n
+word-written l at n h room =
+    ap (wordAt (written l at (fourBytes n))) (sym (length-take-le at l room)) ∙ word-made (take at l) (drop (at + 4) l) n h
