@@ -1,7 +1,6 @@
 -- A number below 2^32 is told by its four bytes, and four bytes by their number: `omega` shows both from quotients and remainders by 256.
-use Prim.Native.Nat.{ℕ, suc, _+_, _*_, _/_, _%_, _≤_, _<_, _^_}
-use native.Mathlib.Nat.{add-zero, add-assoc, mod-add-div, mod-eq-of-lt, div-div-eq-div-mul}
-use native.Mathlib.Numerals.{add-one}
+use Prim.Native.Nat.{ℕ, zero, suc, _+_, _*_, _/_, _%_, _≤_, _<_, _^_}
+use native.Mathlib.Nat.{add-zero, add-suc, mod-add-div, mod-eq-of-lt, div-div-eq-div-mul}
 use native.Mathlib.Omega.{arith}
 use mathlib.Core.List.{List, [], _∷_, _++_, append-assoc}
 use mathlib.Core.Path.{_≡_, refl, sym, ap, _∙_}
@@ -9,11 +8,31 @@ use lib.ListN.{length, getD, take, drop, set}
 use lib.Seq.{length-take-le, drop-cons, getD-append-add, take-add, drop-drop, sets-eq}
 use Rattle.words.specs.Words.{wordAt, fourBytes, written, Bytes}
 
+-- ---- lists of bytes
+
+pub bytes-none : Bytes []
+bytes-none = record { byte = λ i. omega arith }
+
+pub bytes-cons : {a : ℕ} {b : List ℕ} → a < 256 → Bytes b → Bytes (a ∷ b)
+bytes-cons {a} {b} h bytes = record { byte = go }
+  where
+    go : (i : ℕ) → getD (a ∷ b) i 0 < 256
+    go zero = h
+    go (suc i) = bytes .byte i
+
+pub bytes-append : (x : List ℕ) {y : List ℕ} → Bytes x → Bytes y → Bytes (x ++ y)
+bytes-append [] h k = k
+bytes-append (a ∷ x) h k = bytes-cons (h .byte 0) (bytes-append x (record { byte = λ i. h .byte (suc i) }) k)
+
+pub four-are-bytes : (n : ℕ) → Bytes (fourBytes n)
+four-are-bytes n = bytes-cons (omega arith) (bytes-cons (omega arith) (bytes-cons (omega arith) (bytes-cons (omega arith) bytes-none)))
+
 -- ---- parts of a file
 
--- A part by its first byte and the rest.
-pub part-next : (b : List ℕ) (at n : ℕ) → at < length b → take (suc n) (drop at b) ≡ getD b at 0 ∷ take n (drop (at + 1) b)
-part-next b at n h = rw (add-one, drop-cons b at 0)
+-- A part by its first byte and the rest, counted from `at`.
+pub part-next : (b : List ℕ) (at k n : ℕ) → at + k < length b
+    → take (suc n) (drop (at + k) b) ≡ getD b (at + k) 0 ∷ take n (drop (at + suc k) b)
+part-next b at k n h = rw (add-suc, drop-cons b (at + k) 0)
 
 -- A part by its first n bytes and m more.
 pub part-more : (b : List ℕ) (at n m : ℕ) → take (n + m) (drop at b) ≡ take n (drop at b) ++ take m (drop (at + n) b)
@@ -76,19 +95,16 @@ pub made-word : (b : List ℕ) (at : ℕ) → Bytes b → at + 4 ≤ length b �
 unfolding wordAt
 made-word b at bytes h =
     make-bytes (wordAt b at) (getD b at 0) (getD b (at + 1) 0) (getD b (at + 2) 0) (getD b (at + 3) 0)
-    (bytes at) (bytes (at + 1)) (bytes (at + 2)) (bytes (at + 3)) refl
+    (bytes .byte at) (bytes .byte (at + 1)) (bytes .byte (at + 2)) (bytes .byte (at + 3)) refl
     ∙ sym four
   where
+    step : (k n : ℕ) → k < 4 → take (suc n) (drop (at + k) b) ≡ getD b (at + k) 0 ∷ take n (drop (at + suc k) b)
+    step k n l = part-next b at k n (omega arith)
+
     four : take 4 (drop at b) ≡ getD b at 0 ∷ getD b (at + 1) 0 ∷ getD b (at + 2) 0 ∷ getD b (at + 3) 0 ∷ []
     four =
-        rw (
-          part-next b at 3 (omega arith),
-          part-next b (at + 1) 2 (omega arith),
-          add-assoc,
-          part-next b (at + 2) 1 (omega arith),
-          add-assoc,
-          part-next b (at + 3) 0 (omega arith),
-        )
+        ap (λ j. take 4 (drop j b)) (sym (add-zero at))
+        ∙ rw (step 0 3 (omega arith), step 1 2 (omega arith), step 2 1 (omega arith), step 3 0 (omega arith), add-zero)
 
 -- ---- four bytes in their places, one after the other
 

@@ -16,5 +16,5 @@ abbrev pub written : List ℕ → ℕ → List ℕ → List ℕ
 written l at bytes = take at l ++ (bytes ++ drop (at + length bytes) l)
 
 -- Every number of the list is a byte.
-abbrev pub Bytes : List ℕ → Type 0
-Bytes b = (i : ℕ) → getD b i 0 < 256
+pub record Bytes (b : List ℕ) : Type 0 where
+  pub byte : (i : ℕ) → getD b i 0 < 256
