@@ -1,0 +1,211 @@
+-- A file made of numbers has its shape, passes the layout's tests and gives the numbers back, and a file with a right layout is the one made
+-- of its numbers: every record is eight bytes, so that record e of a block lies 8 × e bytes behind the block's start.
+use Prim.Native.Nat.{ℕ, zero, suc, _+_, _*_, _≤_, _<_, _^_}
+use native.Mathlib.Nat.{add-zero, add-assoc, zero-mul, mul-pos}
+use native.Mathlib.Omega.{arith}
+use mathlib.Core.Bool.{Bool, true, false, cond}
+use mathlib.Core.List.{List, [], _∷_, _++_, append-nil, append-assoc}
+use mathlib.Core.Path.{_≡_, refl, sym, ap, ap₂, _∙_}
+use lib.ListN.{length, getD, take, drop, length-append, List·getD-append}
+use lib.Seq.{getD-append-add, take-all}
+use Rattle.words.specs.Words.{wordAt, fourBytes, Bytes}
+use Rattle.words.proofs.Words.{bytes-none, bytes-cons, bytes-append, four-are-bytes, part-next, part-more, word-by, bytes-make, made-word}
+use Rattle.ppda.specs.Equations.{Vector, RowVector}
+use Rattle.ppda.proofs.Places.{row-below, entry-below}
+use Rattle.outcome.specs.declared.Outcome.the-variants.{Accepted}
+use Rattle.outcome.specs.Tests.{first, each}
+use Rattle.outcome.proofs.Tests.{last-or-below}
+use Rattle.delivery.specs.declared.shape.Block.{Block}
+use Rattle.delivery.specs.declared.shape.Block.the-variants.{Uppers, Lowers, Means}
+use Rattle.delivery.specs.declared.shape.Shape.{Shape}
+use Rattle.delivery.specs.declared.shape.Shape.the-variants.{U, UL, UR, ULR}
+use Rattle.delivery.specs.declared.shape.Shaped.the-variants.{Of}
+use Rattle.delivery.specs.Records.{byteOf, valueOf, kindOf, leastOf, mostOf}
+use Rattle.delivery.specs.Shapes.{entriesIn, rowsIn, hasLowers, hasMeans, meansFrom, recordsIn, shapeOf}
+use Rattle.delivery.specs.Numbers.{entryAt, rowAt, uppersOf, lowersOf, meansOf}
+use Rattle.delivery.specs.Layout.{isDue, inRange, layoutTests}
+use Rattle.delivery.proofs.Says.{AtRecords, says-record, says-layout, due-exactly, range-exactly}
+use Rattle.delivery.specs.Made.{deliveryRecord, joined, entryRecords, rowRecords, madeDelivery, NumbersFit}
+
+-- ---- lists of one length, one after the other
+
+module _ (w : ℕ) (h : ℕ → List ℕ) where
+  length-joined : (n : ℕ) → ((i : ℕ) → i < n → length (h i) ≡ w) → length (joined n h) ≡ n * w
+  unfolding joined
+  length-joined zero size = sym (zero-mul w)
+  length-joined (suc n) size =
+      length-append (joined n h) (h n) ∙ omega (arith, length-joined n (λ i l. size i (omega arith)), size n (omega arith))
+
+  -- Byte k of list i.
+  getD-joined : (n : ℕ) → ((i : ℕ) → i < n → length (h i) ≡ w) → (i k : ℕ) → i < n → k < w
+      → getD (joined n h) (i * w + k) 0 ≡ getD (h i) k 0
+  unfolding joined
+  getD-joined zero size i k l lk = absurd (omega arith)
+  getD-joined (suc n) size i k l lk =
+      let long : length (joined n h) ≡ n * w = length-joined n (λ j m. size j (omega arith)) in
+      last-or-below i n l
+      (λ e. rw (e, ← long) (getD-append-add (joined n h) (h n) k 0))
+      (λ m. List·getD-append (joined n h) (h n) 0 (i * w + k) (rw long (row-below n w i k m lk))
+      ∙ getD-joined n (λ j o. size j (omega arith)) i k m lk)
+
+  -- Parts of a file that follow each other are one part of it.
+  joined-part : (b : List ℕ) (from n : ℕ) → ((i : ℕ) → i < n → h i ≡ take w (drop (from + i * w) b))
+      → joined n h ≡ take (n * w) (drop from b)
+  unfolding joined
+  joined-part b from zero part = ap (λ k. take k (drop from b)) (sym (zero-mul w))
+  joined-part b from (suc n) part =
+      let e : n * w + w ≡ suc n * w = omega arith in
+      ap₂ _++_ (joined-part b from n (λ i l. part i (omega arith))) (part n (omega arith))
+      ∙ sym (part-more b from (n * w) w) ∙ ap (λ k. take k (drop from b)) e
+
+bytes-joined : (h : ℕ → List ℕ) (n : ℕ) → ((i : ℕ) → i < n → Bytes (h i)) → Bytes (joined n h)
+unfolding joined
+bytes-joined h zero bytes = bytes-none
+bytes-joined h (suc n) bytes = bytes-append (joined n h) (bytes-joined h n (λ i l. bytes i (omega arith))) (bytes n (omega arith))
+
+-- ---- where records stand
+
+-- Record i of the file has the bytes of this record.
+record Stands (d : List ℕ) (i : ℕ) (k : Block) (p z q v : ℕ) : Type 0 where
+  same : (j : ℕ) → j < 8 → getD d (8 * i + j) 0 ≡ getD (deliveryRecord (kindOf k) p z q v) j 0
+
+-- In front of other bytes, and behind n records.
+stands-left : (x y : List ℕ) {i : ℕ} {k : Block} {p z q v : ℕ} → 8 * i + 8 ≤ length x → Stands x i k p z q v
+    → Stands (x ++ y) i k p z q v
+stands-left x y {i} h st = record { same = λ j l. List·getD-append x y 0 (8 * i + j) (omega arith) ∙ st .same j l }
+
+stands-right : (x y : List ℕ) (n : ℕ) {i : ℕ} {k : Block} {p z q v : ℕ} → length x ≡ 8 * n → Stands y i k p z q v
+    → Stands (x ++ y) (n + i) k p z q v
+stands-right x y n {i} h st =
+    record { same = λ j l. ap (λ k. getD (x ++ y) k 0) (place j) ∙ getD-append-add x y (8 * i + j) 0 ∙ st .same j l }
+  where
+    place : (j : ℕ) → 8 * (n + i) + j ≡ length x + (8 * i + j)
+    place j = omega arith
+
+-- The block of a vector.
+module _ (s g : ℕ) (k : Block) (v : Vector) where
+  exits : ℕ → ℕ → List ℕ
+  exits p z = joined s (λ q. deliveryRecord (kindOf k) p z q (v p z q))
+
+  exits-long : (p z : ℕ) → length (exits p z) ≡ s * 8
+  unfolding exits
+  exits-long p z = length-joined 8 _ s (λ q l. refl)
+
+  rows-long : (p : ℕ) → length (joined g (exits p)) ≡ g * (s * 8)
+  rows-long p = length-joined (s * 8) (exits p) g (λ z l. exits-long p z)
+
+  entries-long : length (entryRecords s g k v) ≡ 8 * entriesIn s g
+  unfolding entryRecords exits
+  entries-long = length-joined (g * (s * 8)) _ s (λ p l. rows-long p) ∙ omega arith
+
+  entry-stands : (p z q : ℕ) → p < s → z < g → q < s
+      → Stands (entryRecords s g k v) (entryAt s g p z q) k p z q (v p z q)
+  unfolding entryRecords exits
+  entry-stands p z q hp hz hq = record { same = same }
+    where
+      same : (j : ℕ) → j < 8 → getD (entryRecords s g k v) (8 * entryAt s g p z q + j) 0 ≡ getD (deliveryRecord (kindOf k) p z q (v p z q)) j 0
+      same j l =
+          let a : q * 8 + j < s * 8 = row-below s 8 q j hq l in
+          let b : z * (s * 8) + (q * 8 + j) < g * (s * 8) = row-below g (s * 8) z (q * 8 + j) hz a in
+          let e : 8 * entryAt s g p z q + j ≡ p * (g * (s * 8)) + (z * (s * 8) + (q * 8 + j)) = omega arith in
+          ap (λ i. getD (entryRecords s g k v) i 0) e
+          ∙ getD-joined (g * (s * 8)) _ s (λ p l. rows-long p) p _ hp b
+          ∙ getD-joined (s * 8) (exits p) g (λ z l. exits-long p z) z _ hz a
+          ∙ getD-joined 8 _ s (λ q l. refl) q j hq l
+
+-- The block of mean steps.
+module _ (s g : ℕ) (r : RowVector) where
+  states-long : (p : ℕ) → length (joined g (λ z. deliveryRecord (kindOf Means) p z 0 (r p z))) ≡ g * 8
+  states-long p = length-joined 8 _ g (λ z l. refl)
+
+  means-long : length (rowRecords s g r) ≡ 8 * rowsIn s g
+  unfolding rowRecords
+  means-long = length-joined (g * 8) _ s (λ p l. states-long p) ∙ omega arith
+
+  row-stands : (p z : ℕ) → p < s → z < g → Stands (rowRecords s g r) (rowAt g p z) Means p z 0 (r p z)
+  unfolding rowRecords
+  row-stands p z hp hz = record { same = same }
+    where
+      same : (j : ℕ) → j < 8 → getD (rowRecords s g r) (8 * rowAt g p z + j) 0 ≡ getD (deliveryRecord (kindOf Means) p z 0 (r p z)) j 0
+      same j l =
+          let a : z * 8 + j < g * 8 = row-below g 8 z j hz l in
+          let e : 8 * rowAt g p z + j ≡ p * (g * 8) + (z * 8 + j) = omega arith in
+          ap (λ i. getD (rowRecords s g r) i 0) e
+          ∙ getD-joined (g * 8) _ s (λ p l. states-long p) p _ hp a
+          ∙ getD-joined 8 _ g (λ z l. refl) z j hz l
+
+-- The whole file: its length, and the records of each block.
+module _ (s g : ℕ) (h : Shape) (u l : Vector) (r : RowVector) where
+  lowers-long : 8 * entriesIn s g + length (cond (hasLowers h) (entryRecords s g Lowers l) []) ≡ 8 * meansFrom s g h
+  unfolding meansFrom
+  lowers-long = go (hasLowers h)
+    where
+      go : (t : Bool) → 8 * entriesIn s g + length (cond t (entryRecords s g Lowers l) []) ≡ 8 * cond t (entriesIn s g + entriesIn s g) (entriesIn s g)
+      go true = omega (arith, entries-long s g Lowers l)
+      go false = omega arith
+
+  pub made-long : length (madeDelivery s g h u l r) ≡ 8 * recordsIn s g h
+  unfolding madeDelivery recordsIn
+  made-long =
+      length-append (entryRecords s g Uppers u) _
+      ∙ omega (
+        arith,
+        entries-long s g Uppers u,
+        lowers-long,
+        length-append (cond (hasLowers h) (entryRecords s g Lowers l) []) (cond (hasMeans h) (rowRecords s g r) []),
+        go (hasMeans h),
+      )
+    where
+      go : (t : Bool) → 8 * meansFrom s g h + length (cond t (rowRecords s g r) []) ≡ 8 * cond t (meansFrom s g h + rowsIn s g) (meansFrom s g h)
+      go true = omega (arith, means-long s g r)
+      go false = omega arith
+
+  upper-stands : (p z q : ℕ) → p < s → z < g → q < s
+      → Stands (madeDelivery s g h u l r) (entryAt s g p z q) Uppers p z q (u p z q)
+  unfolding madeDelivery
+  upper-stands p z q hp hz hq =
+      stands-left (entryRecords s g Uppers u) _ (omega (arith, entries-long s g Uppers u, entry-below s g p z q hp hz hq))
+      (entry-stands s g Uppers u p z q hp hz hq)
+
+  lower-stands : hasLowers h ≡ true → (p z q : ℕ) → p < s → z < g → q < s
+      → Stands (madeDelivery s g h u l r) (entriesIn s g + entryAt s g p z q) Lowers p z q (l p z q)
+  unfolding madeDelivery
+  lower-stands e p z q hp hz hq =
+      rw e (
+      stands-right (entryRecords s g Uppers u) _ (entriesIn s g) (entries-long s g Uppers u)
+      (stands-left (entryRecords s g Lowers l) _ (omega (arith, entries-long s g Lowers l, entry-below s g p z q hp hz hq))
+      (entry-stands s g Lowers l p z q hp hz hq)))
+
+  mean-stands : hasMeans h ≡ true → (p z : ℕ) → p < s → z < g
+      → Stands (madeDelivery s g h u l r) (meansFrom s g h + rowAt g p z) Means p z 0 (r p z)
+  unfolding madeDelivery
+  mean-stands e p z hp hz =
+      rw (e, ← append-assoc (entryRecords s g Uppers u) (cond (hasLowers h) (entryRecords s g Lowers l) []) (rowRecords s g r))
+      (stands-right (entryRecords s g Uppers u ++ cond (hasLowers h) (entryRecords s g Lowers l) []) (rowRecords s g r) (meansFrom s g h) front (row-stands s g r p z hp hz))
+    where
+      front : length (entryRecords s g Uppers u ++ cond (hasLowers h) (entryRecords s g Lowers l) []) ≡ 8 * meansFrom s g h
+      front = length-append (entryRecords s g Uppers u) _ ∙ omega (arith, entries-long s g Uppers u, lowers-long)
+
+-- ---- what a record says where it stands
+
+module _ {d : List ℕ} {i : ℕ} {k : Block} {p z q v : ℕ} (st : Stands d i k p z q v) where
+  kind-said : byteOf d i 0 ≡ kindOf k
+  unfolding byteOf
+  kind-said = st .same 0 (omega arith)
+
+  due-said : isDue d i k p z q ≡ true
+  unfolding byteOf
+  due-said =
+      due-exactly d i k p z q .1 (kind-said, (st .same 1 (omega arith), (st .same 2 (omega arith), st .same 3 (omega arith))))
+
+  value-said : v < 2 ^ 32 → valueOf d i ≡ v
+  unfolding valueOf
+  value-said h =
+      word-by d (8 * i + 4) (st .same 4 (omega arith)) (byte 1 (omega arith)) (byte 2 (omega arith)) (byte 3 (omega arith))
+      ∙ bytes-make v h
+    where
+      byte : (j : ℕ) → 4 + j < 8 → getD d (8 * i + 4 + j) 0 ≡ getD (deliveryRecord (kindOf k) p z q v) (4 + j) 0
+      byte j l = ap (λ n. getD d n 0) (add-assoc (8 * i) 4 j) ∙ st .same (4 + j) l
+
+  range-said : v < 2 ^ 32 → leastOf k ≤ v → v ≤ mostOf k → inRange d i k ≡ true
+  range-said h least most = let e = value-said h in range-exactly d i k .1 (rw e least, rw e most)
