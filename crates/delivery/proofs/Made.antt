@@ -1,11 +1,12 @@
 -- A file made of numbers has its shape, passes the layout's tests and gives the numbers back, and a file with a right layout is the one made
 -- of its numbers: every record is eight bytes, so that record e of a block lies 8 × e bytes behind the block's start.
 use Prim.Native.Nat.{ℕ, zero, suc, _+_, _*_, _≤_, _<_, _^_}
-use native.Mathlib.Nat.{add-zero, add-assoc, zero-mul, mul-pos}
+use native.Mathlib.Nat.{add-zero, add-assoc, zero-mul, eq-or-lt-of-le}
 use native.Mathlib.Omega.{arith}
 use mathlib.Core.Bool.{Bool, true, false, cond}
 use mathlib.Core.List.{List, [], _∷_, _++_, append-nil, append-assoc}
-use mathlib.Core.Path.{_≡_, refl, sym, ap, ap₂, _∙_}
+use mathlib.Core.Logic.{_⊎_, inl, inr}
+use mathlib.Core.Path.{_≡_, refl, sym, ap, ap₂, subst, _∙_}
 use lib.ListN.{length, getD, take, drop, length-append, List·getD-append}
 use lib.Seq.{getD-append-add, take-all}
 use Rattle.words.specs.Words.{wordAt, fourBytes, Bytes}
@@ -14,7 +15,7 @@ use Rattle.ppda.specs.Equations.{Vector, RowVector}
 use Rattle.ppda.proofs.Places.{row-below, entry-below}
 use Rattle.outcome.specs.declared.Outcome.the-variants.{Accepted}
 use Rattle.outcome.specs.Tests.{first, each}
-use Rattle.outcome.proofs.Tests.{last-or-below}
+use Rattle.outcome.proofs.Tests.{accepted-exactly, last-or-below}
 use Rattle.delivery.specs.declared.shape.Block.{Block}
 use Rattle.delivery.specs.declared.shape.Block.the-variants.{Uppers, Lowers, Means}
 use Rattle.delivery.specs.declared.shape.Shape.{Shape}
@@ -24,6 +25,7 @@ use Rattle.delivery.specs.Records.{byteOf, valueOf, kindOf, leastOf, mos
 use Rattle.delivery.specs.Shapes.{entriesIn, rowsIn, hasLowers, hasMeans, meansFrom, recordsIn, shapeOf}
 use Rattle.delivery.specs.Numbers.{entryAt, rowAt, uppersOf, lowersOf, meansOf}
 use Rattle.delivery.specs.Layout.{isDue, inRange, layoutTests}
+use Rattle.delivery.proofs.Shapes.{one-state, shape-long, shape-found, one-state-lowers, one-state-means, one-state-alone, one-state-both}
 use Rattle.delivery.proofs.Says.{AtRecords, says-record, says-layout, due-exactly, range-exactly}
 use Rattle.delivery.specs.Made.{deliveryRecord, joined, entryRecords, rowRecords, madeDelivery, NumbersFit}
 
@@ -209,3 +211,74 @@ module _ {d : List ℕ} {i : ℕ} {k : Block} {p z q v : ℕ} (st : Stands d i k
 
   range-said : v < 2 ^ 32 → leastOf k ≤ v → v ≤ mostOf k → inRange d i k ≡ true
   range-said h least most = let e = value-said h in range-exactly d i k .1 (rw e least, rw e most)
+
+-- ---- reading what was made
+
+module _ (s g : ℕ) (h : Shape) (u l : Vector) (r : RowVector) where
+  -- Every record is the one due.
+  pub due-of-made : AtRecords s g h (λ i k p z q. isDue (madeDelivery s g h u l r) i k p z q ≡ true)
+  due-of-made = (
+    λ p z q hp hz hq. due-said (upper-stands s g h u l r p z q hp hz hq),
+    (
+      λ e p z q hp hz hq. due-said (lower-stands s g h u l r e p z q hp hz hq),
+      λ e p z hp hz. due-said (mean-stands s g h u l r e p z hp hz),
+    ),
+  )
+
+  pub uppers-of-made : (p z q : ℕ) → p < s → z < g → q < s → u p z q < 2 ^ 32 → uppersOf s g (madeDelivery s g h u l r) p z q ≡ u p z q
+  unfolding uppersOf
+  uppers-of-made p z q hp hz hq = value-said (upper-stands s g h u l r p z q hp hz hq)
+
+  pub lowers-of-made : hasLowers h ≡ true → (p z q : ℕ) → p < s → z < g → q < s → l p z q < 2 ^ 32
+      → lowersOf s g (madeDelivery s g h u l r) p z q ≡ l p z q
+  unfolding lowersOf
+  lowers-of-made e p z q hp hz hq = value-said (lower-stands s g h u l r e p z q hp hz hq)
+
+  pub means-of-made : hasMeans h ≡ true → (p z : ℕ) → p < s → z < g → r p z < 2 ^ 32 → meansOf s g h (madeDelivery s g h u l r) p z ≡ r p z
+  unfolding meansOf
+  means-of-made e p z hp hz = value-said (mean-stands s g h u l r e p z hp hz)
+
+  -- With numbers in range the layout passes.
+  pub layout-of-made : NumbersFit s g h u l r → first (layoutTests s g h (madeDelivery s g h u l r)) ≡ Accepted
+  layout-of-made fit =
+      accepted-exactly (layoutTests s g h (madeDelivery s g h u l r)) .1 (
+        says-layout s g h (madeDelivery s g h u l r) (says-record (madeDelivery s g h u l r)) .exactly .1 (
+          λ p z q hp hz hq. right (upper-stands s g h u l r p z q hp hz hq) (omega arith) (fit .uppers p z q hp hz hq),
+          (
+            λ e p z q hp hz hq. right (lower-stands s g h u l r e p z q hp hz hq) (omega arith) (fit .lowers e p z q hp hz hq),
+            λ e p z hp hz. right (mean-stands s g h u l r e p z hp hz) (fit .means e p z hp hz .0) (fit .means e p z hp hz .1),
+          ),
+        )
+      )
+    where
+      small : (k : Block) → mostOf k < 2 ^ 32
+      small Uppers = omega arith
+      small Lowers = omega arith
+      small Means = omega arith
+
+      right : {d : List ℕ} {i : ℕ} {k : Block} {p z q v : ℕ} → Stands d i k p z q v → leastOf k ≤ v → v ≤ mostOf k
+          → (isDue d i k p z q ≡ true) × (inRange d i k ≡ true)
+      right {k = k} st least most = (due-said st, range-said st (omega (arith, small k)) least most)
+
+-- With one state, UL and UR are equally long, and the kind of record V tells them apart.
+one-state-made : (g : ℕ) (h : Shape) (u l : Vector) (r : RowVector) → 0 < g → shapeOf 1 g (madeDelivery 1 g h u l r) ≡ Of h
+unfolding meansFrom
+one-state-made g U u l r some = one-state-alone g _ some (made-long 1 g U u l r)
+one-state-made g UL u l r some =
+    let e : entriesIn 1 g + entryAt 1 g 0 0 0 ≡ entriesIn 1 g = omega arith in
+    one-state-lowers g (madeDelivery 1 g UL u l r) some (made-long 1 g UL u l r) .1
+    (rw e at (kind-said (lower-stands 1 g UL u l r refl 0 0 0 (omega arith) some (omega arith))))
+one-state-made g UR u l r some =
+    let e : meansFrom 1 g UR + rowAt g 0 0 ≡ entriesIn 1 g = omega arith in
+    let k : byteOf (madeDelivery 1 g UR u l r) (entriesIn 1 g) 0 ≡ kindOf Means =
+        rw e at (kind-said (mean-stands 1 g UR u l r refl 0 0 (omega arith) some)) in
+    one-state-means g (madeDelivery 1 g UR u l r) some (made-long 1 g UR u l r ∙ ap (λ n. 8 * n) (sym (one-state 1 g refl))) .1
+    (λ q. omega arith)
+one-state-made g ULR u l r some = one-state-both g _ some (made-long 1 g ULR u l r)
+
+pub shape-of-made : (s g : ℕ) (h : Shape) (u l : Vector) (r : RowVector) → 0 < s → 0 < g → shapeOf s g (madeDelivery s g h u l r) ≡ Of h
+shape-of-made s g h u l r hs hg = go (eq-or-lt-of-le hs)
+  where
+    go : (1 ≡ s) ⊎ (1 < s) → shapeOf s g (madeDelivery s g h u l r) ≡ Of h
+    go (inl e) = subst (λ n. shapeOf n g (madeDelivery n g h u l r) ≡ Of h) e (one-state-made g h u l r hg)
+    go (inr more) = shape-found s g (madeDelivery s g h u l r) h more hg (made-long s g h u l r)
