@@ -242,13 +242,13 @@ module _ (s g : ℕ) (h : Shape) (u l : Vector) (r : RowVector) where
   pub layout-of-made : NumbersFit s g h u l r → first (layoutTests s g h (madeDelivery s g h u l r)) ≡ Accepted
   layout-of-made fit =
       accepted-exactly (layoutTests s g h (madeDelivery s g h u l r)) .1 (
-        says-layout s g h (madeDelivery s g h u l r) (says-record (madeDelivery s g h u l r)) .exactly .1 (
-          λ p z q hp hz hq. right (upper-stands s g h u l r p z q hp hz hq) (omega arith) (fit .uppers p z q hp hz hq),
-          (
-            λ e p z q hp hz hq. right (lower-stands s g h u l r e p z q hp hz hq) (omega arith) (fit .lowers e p z q hp hz hq),
-            λ e p z hp hz. right (mean-stands s g h u l r e p z hp hz) (fit .means e p z hp hz .0) (fit .means e p z hp hz .1),
-          ),
-        )
+      says-layout s g h (madeDelivery s g h u l r) (says-record (madeDelivery s g h u l r)) .exactly .1 (
+        λ p z q hp hz hq. right (upper-stands s g h u l r p z q hp hz hq) (omega arith) (fit .uppers p z q hp hz hq),
+        (
+          λ e p z q hp hz hq. right (lower-stands s g h u l r e p z q hp hz hq) (omega arith) (fit .lowers e p z q hp hz hq),
+          λ e p z hp hz. right (mean-stands s g h u l r e p z hp hz) (fit .means e p z hp hz .0) (fit .means e p z hp hz .1),
+        ),
+      )
       )
     where
       small : (k : Block) → mostOf k < 2 ^ 32
@@ -271,7 +271,7 @@ one-state-made g UL u l r some =
 one-state-made g UR u l r some =
     let e : meansFrom 1 g UR + rowAt g 0 0 ≡ entriesIn 1 g = omega arith in
     let k : byteOf (madeDelivery 1 g UR u l r) (entriesIn 1 g) 0 ≡ kindOf Means =
-        rw e at (kind-said (mean-stands 1 g UR u l r refl 0 0 (omega arith) some)) in
+    rw e at (kind-said (mean-stands 1 g UR u l r refl 0 0 (omega arith) some)) in
     one-state-means g (madeDelivery 1 g UR u l r) some (made-long 1 g UR u l r ∙ ap (λ n. 8 * n) (sym (one-state 1 g refl))) .1
     (λ q. omega arith)
 one-state-made g ULR u l r some = one-state-both g _ some (made-long 1 g ULR u l r)
@@ -282,3 +282,102 @@ shape-of-made s g h u l r hs hg = go (eq-or-lt-of-le hs)
     go : (1 ≡ s) ⊎ (1 < s) → shapeOf s g (madeDelivery s g h u l r) ≡ Of h
     go (inl e) = subst (λ n. shapeOf n g (madeDelivery n g h u l r) ≡ Of h) e (one-state-made g h u l r hg)
     go (inr more) = shape-found s g (madeDelivery s g h u l r) h more hg (made-long s g h u l r)
+
+-- The file is made of bytes.
+record-bytes : (k : Block) (p z q v : ℕ) → p < 256 → z < 256 → q < 256 → Bytes (deliveryRecord (kindOf k) p z q v)
+record-bytes k p z q v hp hz hq = bytes-cons (kind k) (bytes-cons hp (bytes-cons hz (bytes-cons hq (four-are-bytes v))))
+  where
+    kind : (k : Block) → kindOf k < 256
+    kind Uppers = omega arith
+    kind Lowers = omega arith
+    kind Means = omega arith
+
+bytes-if : (t : Bool) {x : List ℕ} → Bytes x → Bytes (cond t x [])
+bytes-if true bytes = bytes
+bytes-if false bytes = bytes-none
+
+pub bytes-of-made : (s g : ℕ) (h : Shape) (u l : Vector) (r : RowVector) → s ≤ 256 → g ≤ 256 → Bytes (madeDelivery s g h u l r)
+unfolding madeDelivery entryRecords rowRecords
+bytes-of-made s g h u l r hs hg =
+    bytes-append (entryRecords s g Uppers u) (block Uppers u)
+    (bytes-append (cond (hasLowers h) (entryRecords s g Lowers l) []) (bytes-if (hasLowers h) (block Lowers l)) (bytes-if (hasMeans h) rows))
+  where
+    block : (k : Block) (v : Vector) → Bytes (entryRecords s g k v)
+    block k v =
+        bytes-joined _ s (λ p hp. bytes-joined _ g (λ z hz. bytes-joined _ s (λ q hq.
+        record-bytes k p z q (v p z q) (omega arith) (omega arith) (omega arith))))
+
+    rows : Bytes (rowRecords s g r)
+    rows =
+        bytes-joined _ s (λ p hp. bytes-joined _ g (λ z hz. record-bytes Means p z 0 (r p z) (omega arith) (omega arith) (omega arith)))
+
+-- ---- making what was read
+
+module _ (d : List ℕ) (bytes : Bytes d) where
+  -- A record that is the one due, made again.
+  record-back : (i : ℕ) (k : Block) (p z q : ℕ) → 8 * i + 8 ≤ length d → isDue d i k p z q ≡ true
+      → deliveryRecord (kindOf k) p z q (valueOf d i) ≡ take 8 (drop (8 * i) d)
+  unfolding byteOf valueOf
+  record-back i k p z q room e =
+      let (kind, (state, (symbol, exit))) = due-exactly d i k p z q .0 e in
+      sym (
+      ap (λ j. take 8 (drop j d)) (sym (add-zero (8 * i)))
+      ∙ rw (
+        step 0 7 (omega arith),
+        step 1 6 (omega arith),
+        step 2 5 (omega arith),
+        step 3 4 (omega arith),
+        kind,
+        state,
+        symbol,
+        exit,
+        made-word d (8 * i + 4) bytes (omega arith),
+      )
+      )
+    where
+      step : (j n : ℕ) → j < 8 → take (suc n) (drop (8 * i + j) d) ≡ getD d (8 * i + j) 0 ∷ take n (drop (8 * i + suc j) d)
+      step j n l = part-next d (8 * i) j n (omega arith)
+
+  -- A block of entries from record `from` on, made again.
+  block-back : (s g : ℕ) (k : Block) (v : Vector) (from : ℕ) → 8 * (from + entriesIn s g) ≤ length d
+      → ((p z q : ℕ) → p < s → z < g → q < s
+      → (isDue d (from + entryAt s g p z q) k p z q ≡ true) × (v p z q ≡ valueOf d (from + entryAt s g p z q)))
+      → entryRecords s g k v ≡ take (8 * entriesIn s g) (drop (8 * from) d)
+  unfolding entryRecords
+  block-back s g k v from room due =
+      joined-part (g * (s * 8)) _ d (8 * from) s (λ p hp.
+      joined-part (s * 8) _ d _ g (λ z hz.
+      joined-part 8 _ d _ s (λ q hq. entry p z q hp hz hq)))
+      ∙ ap (λ n. take n (drop (8 * from) d)) size
+    where
+      size : s * (g * (s * 8)) ≡ 8 * entriesIn s g
+      size = omega arith
+
+      entry : (p z q : ℕ) → p < s → z < g → q < s
+          → deliveryRecord (kindOf k) p z q (v p z q) ≡ take 8 (drop (8 * from + p * (g * (s * 8)) + z * (s * 8) + q * 8) d)
+      entry p z q hp hz hq =
+          let (is, value) = due p z q hp hz hq in
+          let place : 8 * (from + entryAt s g p z q) ≡ 8 * from + p * (g * (s * 8)) + z * (s * 8) + q * 8 = omega arith in
+          ap (deliveryRecord (kindOf k) p z q) value
+          ∙ record-back (from + entryAt s g p z q) k p z q (omega (arith, entry-below s g p z q hp hz hq)) is
+          ∙ ap (λ n. take 8 (drop n d)) place
+
+  -- The mean steps from record `from` on, made again.
+  rows-back : (s g : ℕ) (r : RowVector) (from : ℕ) → 8 * (from + rowsIn s g) ≤ length d
+      → ((p z : ℕ) → p < s → z < g → (isDue d (from + rowAt g p z) Means p z 0 ≡ true) × (r p z ≡ valueOf d (from + rowAt g p z)))
+      → rowRecords s g r ≡ take (8 * rowsIn s g) (drop (8 * from) d)
+  unfolding rowRecords
+  rows-back s g r from room due =
+      joined-part (g * 8) _ d (8 * from) s (λ p hp. joined-part 8 _ d _ g (λ z hz. row p z hp hz))
+      ∙ ap (λ n. take n (drop (8 * from) d)) size
+    where
+      size : s * (g * 8) ≡ 8 * rowsIn s g
+      size = omega arith
+
+      row : (p z : ℕ) → p < s → z < g → deliveryRecord (kindOf Means) p z 0 (r p z) ≡ take 8 (drop (8 * from + p * (g * 8) + z * 8) d)
+      row p z hp hz =
+          let (is, value) = due p z hp hz in
+          let place : 8 * (from + rowAt g p z) ≡ 8 * from + p * (g * 8) + z * 8 = omega arith in
+          ap (deliveryRecord (kindOf Means) p z 0) value
+          ∙ record-back (from + rowAt g p z) Means p z 0 (omega (arith, row-below s g p z hp hz)) is
+          ∙ ap (λ n. take 8 (drop n d)) place
