@@ -1,14 +1,14 @@
 -- A file made of numbers has its shape, passes the layout's tests and gives the numbers back, and a file with a right layout is the one made
 -- of its numbers: every record is eight bytes, so that record e of a block lies 8 × e bytes behind the block's start.
 use Prim.Native.Nat.{ℕ, zero, suc, _+_, _*_, _≤_, _<_, _^_}
-use native.Mathlib.Nat.{add-zero, add-assoc, zero-mul, eq-or-lt-of-le}
+use native.Mathlib.Nat.{add-zero, zero-add, add-assoc, zero-mul, eq-or-lt-of-le}
 use native.Mathlib.Omega.{arith}
 use mathlib.Core.Bool.{Bool, true, false, cond}
 use mathlib.Core.List.{List, [], _∷_, _++_, append-nil, append-assoc}
 use mathlib.Core.Logic.{_⊎_, inl, inr}
 use mathlib.Core.Path.{_≡_, refl, sym, ap, ap₂, subst, _∙_}
 use lib.ListN.{length, getD, take, drop, length-append, List·getD-append}
-use lib.Seq.{getD-append-add, take-all}
+use lib.Seq.{getD-append-add, take-all, take-add}
 use Rattle.words.specs.Words.{wordAt, fourBytes, Bytes}
 use Rattle.words.proofs.Words.{bytes-none, bytes-cons, bytes-append, four-are-bytes, part-next, part-more, word-by, bytes-make, made-word}
 use Rattle.ppda.specs.Equations.{Vector, RowVector}
@@ -25,7 +25,7 @@ use Rattle.delivery.specs.Records.{byteOf, valueOf, kindOf, leastOf, mos
 use Rattle.delivery.specs.Shapes.{entriesIn, rowsIn, hasLowers, hasMeans, meansFrom, recordsIn, shapeOf}
 use Rattle.delivery.specs.Numbers.{entryAt, rowAt, uppersOf, lowersOf, meansOf}
 use Rattle.delivery.specs.Layout.{isDue, inRange, layoutTests}
-use Rattle.delivery.proofs.Shapes.{one-state, shape-long, shape-found, one-state-lowers, one-state-means, one-state-alone, one-state-both}
+use Rattle.delivery.proofs.Shapes.{one-state, shape-long, shape-found, one-state-lowers, one-state-means, one-state-alone, one-state-both, uppers-fit, lowers-fit, means-fit}
 use Rattle.delivery.proofs.Says.{AtRecords, says-record, says-layout, due-exactly, range-exactly}
 use Rattle.delivery.specs.Made.{deliveryRecord, joined, entryRecords, rowRecords, madeDelivery, NumbersFit}
 
@@ -136,31 +136,52 @@ module _ (s g : ℕ) (r : RowVector) where
           ∙ getD-joined (g * 8) _ s (λ p l. states-long p) p _ hp a
           ∙ getD-joined 8 _ g (λ z l. refl) z j hz l
 
+-- How many bytes the lowers and the mean steps of a shape have.
+abbrev lowerBytes : ℕ → ℕ → Shape → ℕ
+lowerBytes s g h = cond (hasLowers h) (8 * entriesIn s g) 0
+
+abbrev meanBytes : ℕ → ℕ → Shape → ℕ
+meanBytes s g h = cond (hasMeans h) (8 * rowsIn s g) 0
+
+before-means : (s g : ℕ) (h : Shape) → 8 * meansFrom s g h ≡ 8 * entriesIn s g + lowerBytes s g h
+unfolding meansFrom
+before-means s g U = omega arith
+before-means s g UL = omega arith
+before-means s g UR = omega arith
+before-means s g ULR = omega arith
+
+whole-file : (s g : ℕ) (h : Shape) → 8 * recordsIn s g h ≡ 8 * entriesIn s g + lowerBytes s g h + meanBytes s g h
+unfolding recordsIn meansFrom
+whole-file s g U = omega arith
+whole-file s g UL = omega arith
+whole-file s g UR = omega arith
+whole-file s g ULR = omega arith
+
+long-if : (t : Bool) (x : List ℕ) (n : ℕ) → length x ≡ n → length (cond t x []) ≡ cond t n 0
+long-if true x n e = e
+long-if false x n e = refl
+
 -- The whole file: its length, and the records of each block.
 module _ (s g : ℕ) (h : Shape) (u l : Vector) (r : RowVector) where
-  lowers-long : 8 * entriesIn s g + length (cond (hasLowers h) (entryRecords s g Lowers l) []) ≡ 8 * meansFrom s g h
-  unfolding meansFrom
-  lowers-long = go (hasLowers h)
-    where
-      go : (t : Bool) → 8 * entriesIn s g + length (cond t (entryRecords s g Lowers l) []) ≡ 8 * cond t (entriesIn s g + entriesIn s g) (entriesIn s g)
-      go true = omega (arith, entries-long s g Lowers l)
-      go false = omega arith
+  front : List ℕ
+  front = entryRecords s g Uppers u ++ cond (hasLowers h) (entryRecords s g Lowers l) []
+
+  made-split : madeDelivery s g h u l r ≡ front ++ cond (hasMeans h) (rowRecords s g r) []
+  unfolding madeDelivery front
+  made-split = sym (append-assoc (entryRecords s g Uppers u) (cond (hasLowers h) (entryRecords s g Lowers l) []) _)
+
+  front-long : length front ≡ 8 * meansFrom s g h
+  unfolding front
+  front-long =
+      length-append (entryRecords s g Uppers u) _
+      ∙ ap₂ _+_ (entries-long s g Uppers u) (long-if (hasLowers h) _ (8 * entriesIn s g) (entries-long s g Lowers l))
+      ∙ sym (before-means s g h)
 
   pub made-long : length (madeDelivery s g h u l r) ≡ 8 * recordsIn s g h
-  unfolding madeDelivery recordsIn
   made-long =
-      length-append (entryRecords s g Uppers u) _
-      ∙ omega (
-        arith,
-        entries-long s g Uppers u,
-        lowers-long,
-        length-append (cond (hasLowers h) (entryRecords s g Lowers l) []) (cond (hasMeans h) (rowRecords s g r) []),
-        go (hasMeans h),
-      )
-    where
-      go : (t : Bool) → 8 * meansFrom s g h + length (cond t (rowRecords s g r) []) ≡ 8 * cond t (meansFrom s g h + rowsIn s g) (meansFrom s g h)
-      go true = omega (arith, means-long s g r)
-      go false = omega arith
+      ap length made-split ∙ length-append front _
+      ∙ ap₂ _+_ (front-long ∙ before-means s g h) (long-if (hasMeans h) _ (8 * rowsIn s g) (means-long s g r))
+      ∙ sym (whole-file s g h)
 
   upper-stands : (p z q : ℕ) → p < s → z < g → q < s
       → Stands (madeDelivery s g h u l r) (entryAt s g p z q) Uppers p z q (u p z q)
@@ -180,13 +201,8 @@ module _ (s g : ℕ) (h : Shape) (u l : Vector) (r : RowVector) where
 
   mean-stands : hasMeans h ≡ true → (p z : ℕ) → p < s → z < g
       → Stands (madeDelivery s g h u l r) (meansFrom s g h + rowAt g p z) Means p z 0 (r p z)
-  unfolding madeDelivery
   mean-stands e p z hp hz =
-      rw (e, ← append-assoc (entryRecords s g Uppers u) (cond (hasLowers h) (entryRecords s g Lowers l) []) (rowRecords s g r))
-      (stands-right (entryRecords s g Uppers u ++ cond (hasLowers h) (entryRecords s g Lowers l) []) (rowRecords s g r) (meansFrom s g h) front (row-stands s g r p z hp hz))
-    where
-      front : length (entryRecords s g Uppers u ++ cond (hasLowers h) (entryRecords s g Lowers l) []) ≡ 8 * meansFrom s g h
-      front = length-append (entryRecords s g Uppers u) _ ∙ omega (arith, entries-long s g Uppers u, lowers-long)
+      rw (made-split, e) (stands-right front (rowRecords s g r) (meansFrom s g h) front-long (row-stands s g r p z hp hz))
 
 -- ---- what a record says where it stands
 
@@ -381,3 +397,42 @@ module _ (d : List ℕ) (bytes : Bytes d) where
           ap (deliveryRecord (kindOf Means) p z 0) value
           ∙ record-back (from + rowAt g p z) Means p z 0 (omega (arith, row-below s g p z hp hz)) is
           ∙ ap (λ n. take 8 (drop n d)) place
+
+-- A list by three parts that follow each other.
+three-parts : (d : List ℕ) (a b c : ℕ) → length d ≡ a + b + c → take a d ++ (take b (drop a d) ++ take c (drop (a + b) d)) ≡ d
+three-parts d a b c e =
+    ap (λ l. take a d ++ l) (sym (part-more d a b c)) ∙ sym (take-add a (b + c) d) ∙ take-all (a + (b + c)) d (omega arith)
+
+-- A block that a shape does not have is an empty part.
+part-if : (t : Bool) (d x : List ℕ) (at n : ℕ) → (t ≡ true → x ≡ take n (drop at d)) → cond t x [] ≡ take (cond t n 0) (drop at d)
+part-if true d x at n part = part refl
+part-if false d x at n part = refl
+
+-- A file with a right layout is the one made of its numbers.
+pub made-of-delivery : (s g : ℕ) (h : Shape) (d : List ℕ) → shapeOf s g d ≡ Of h → first (layoutTests s g h d) ≡ Accepted → Bytes d
+    → madeDelivery s g h (uppersOf s g d) (lowersOf s g d) (meansOf s g h d) ≡ d
+unfolding madeDelivery uppersOf lowersOf meansOf
+made-of-delivery s g h d of accepted bytes =
+    ap₂ _++_ uppers (ap₂ _++_ lowers means)
+    ∙ three-parts d (8 * entriesIn s g) (lowerBytes s g h) (meanBytes s g h) (shape-long s g d h of ∙ whole-file s g h)
+  where
+    right : AtRecords s g h (λ i k p z q. (isDue d i k p z q ≡ true) × (inRange d i k ≡ true))
+    right = says-layout s g h d (says-record d) .exactly .0 (accepted-exactly (layoutTests s g h d) .0 accepted)
+
+    uppers : entryRecords s g Uppers (uppersOf s g d) ≡ take (8 * entriesIn s g) d
+    uppers =
+        block-back d bytes s g Uppers (uppersOf s g d) 0 (rw zero-add (uppers-fit s g d h of))
+        (λ p z q hp hz hq. rw zero-add (right .0 p z q hp hz hq .0, refl))
+
+    lowers : cond (hasLowers h) (entryRecords s g Lowers (lowersOf s g d)) [] ≡ take (lowerBytes s g h) (drop (8 * entriesIn s g) d)
+    lowers =
+        part-if (hasLowers h) d _ (8 * entriesIn s g) (8 * entriesIn s g) (λ e.
+        block-back d bytes s g Lowers (lowersOf s g d) (entriesIn s g) (lowers-fit s g d h of e)
+        (λ p z q hp hz hq. (right .1 .0 e p z q hp hz hq .0, refl)))
+
+    means : cond (hasMeans h) (rowRecords s g (meansOf s g h d)) [] ≡ take (meanBytes s g h) (drop (8 * entriesIn s g + lowerBytes s g h) d)
+    means =
+        part-if (hasMeans h) d _ (8 * entriesIn s g + lowerBytes s g h) (8 * rowsIn s g) (λ e.
+        rows-back d bytes s g (meansOf s g h d) (meansFrom s g h) (means-fit s g d h of e)
+        (λ p z hp hz. (right .1 .1 e p z hp hz .0, refl))
+        ∙ ap (λ n. take (8 * rowsIn s g) (drop n d)) (before-means s g h))
