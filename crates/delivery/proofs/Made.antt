@@ -4,17 +4,17 @@ use Prim.Native.Nat.{ℕ, zero, suc, _+_, _*_, _≤_, _<_, _^_}
 use native.Mathlib.Nat.{add-zero, zero-add, add-assoc, zero-mul, eq-or-lt-of-le}
 use native.Mathlib.Omega.{arith}
 use mathlib.Core.Bool.{Bool, true, false, cond}
-use mathlib.Core.List.{List, [], _∷_, _++_, append-nil, append-assoc}
+use mathlib.Core.List.{List, [], _∷_, _++_, append-assoc}
 use mathlib.Core.Logic.{_⊎_, inl, inr}
 use mathlib.Core.Path.{_≡_, refl, sym, ap, ap₂, subst, _∙_}
 use lib.ListN.{length, getD, take, drop, length-append, List·getD-append}
 use lib.Seq.{getD-append-add, take-all, take-add}
-use Rattle.words.specs.Words.{wordAt, fourBytes, Bytes}
+use Rattle.words.specs.Words.{Bytes}
 use Rattle.words.proofs.Words.{bytes-none, bytes-cons, bytes-append, four-are-bytes, part-next, part-more, word-by, bytes-make, made-word}
 use Rattle.ppda.specs.Equations.{Vector, RowVector}
 use Rattle.ppda.proofs.Places.{row-below, entry-below}
 use Rattle.outcome.specs.declared.Outcome.the-variants.{Accepted}
-use Rattle.outcome.specs.Tests.{first, each}
+use Rattle.outcome.specs.Tests.{first}
 use Rattle.outcome.proofs.Tests.{accepted-exactly, last-or-below}
 use Rattle.delivery.specs.declared.shape.Block.{Block}
 use Rattle.delivery.specs.declared.shape.Block.the-variants.{Uppers, Lowers, Means}

@@ -6,7 +6,7 @@ use mathlib.Core.List.{List, [], _∷_, _++_}
 use mathlib.Core.Logic.{_↔_, Iff·trans}
 use mathlib.Core.Path.{_≡_, refl, sym}
 use borrow.Author.Tests.{not-false}
-use Rattle.outcome.specs.Tests.{Test, each, Passed}
+use Rattle.outcome.specs.Tests.{Test, Passed}
 use Rattle.outcome.proofs.Exactly.{le-exactly, eq-exactly, both, not-exactly}
 use Rattle.outcome.proofs.Tests.{passed-one, passed-append, passed-each}
 use Rattle.delivery.specs.declared.shape.Block.{Block}

@@ -4,17 +4,17 @@ use Prim.Native.Nat.{ℕ, zero, suc, _+_, _*_, _≤_, _<_, _^_}
 use native.Mathlib.Nat.{add-zero}
 use native.Mathlib.Omega.{arith}
 use mathlib.Core.List.{List, [], _∷_, _++_, append-nil, append-assoc}
-use mathlib.Core.Logic.{_⊎_, inl, inr}
+use mathlib.Core.Logic.{inl, inr}
 use mathlib.Core.Path.{_≡_, refl, sym, ap, ap₂, _∙_}
 use lib.ListN.{length, getD, take, drop, length-append}
 use lib.Seq.{getD-append-add, take-length, take-add}
-use Rattle.words.specs.Words.{wordAt, fourBytes, Bytes}
-use Rattle.words.proofs.Words.{bytes-none, bytes-cons, bytes-append, four-are-bytes, part-next, part-more, word-past, word-made, made-word}
+use Rattle.words.specs.Words.{wordAt, Bytes}
+use Rattle.words.proofs.Words.{bytes-none, bytes-cons, bytes-append, four-are-bytes, part-next, word-past, word-made, made-word}
 use Rattle.ppda.specs.Sums.{In}
 use Rattle.ppda.specs.Rules.{Push, nothing, one, two, pushed, Rule, rule, Below}
 use Rattle.model.specs.Records.{recordsOf, field, state, symbol, target, pushes, top, under, weight}
 use Rattle.model.specs.Rules.{pushOf, ruleOf, listTo, rulesOf}
-use Rattle.model.specs.Accepted.{RecordRight, RecordsRight, ModelFile}
+use Rattle.model.specs.Accepted.{RecordRight, ModelFile}
 use Rattle.model.specs.Made.{modelRecord, pushRecord, ruleRecord, madeModel, RuleFits}
 
 -- ---- reading what was made
