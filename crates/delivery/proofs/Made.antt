@@ -86,43 +86,32 @@ stands-right x y n {i} h st =
 
 -- The block of a vector.
 module _ (s g : ℕ) (k : Block) (v : Vector) where
-  exits : ℕ → ℕ → List ℕ
-  exits p z = joined s (λ q. deliveryRecord (kindOf k) p z q (v p z q))
-
-  exits-long : (p z : ℕ) → length (exits p z) ≡ s * 8
-  unfolding exits
-  exits-long p z = length-joined 8 _ s (λ q l. refl)
-
-  rows-long : (p : ℕ) → length (joined g (exits p)) ≡ g * (s * 8)
-  rows-long p = length-joined (s * 8) (exits p) g (λ z l. exits-long p z)
-
   entries-long : length (entryRecords s g k v) ≡ 8 * entriesIn s g
-  unfolding entryRecords exits
-  entries-long = length-joined (g * (s * 8)) _ s (λ p l. rows-long p) ∙ omega arith
+  unfolding entryRecords
+  entries-long =
+      length-joined (g * (s * 8)) _ s (λ p hp. length-joined (s * 8) _ g (λ z hz. length-joined 8 _ s (λ q hq. refl)))
+      ∙ omega arith
 
-  entry-stands : (p z q : ℕ) → p < s → z < g → q < s
-      → Stands (entryRecords s g k v) (entryAt s g p z q) k p z q (v p z q)
-  unfolding entryRecords exits
+  entry-stands : (p z q : ℕ) → p < s → z < g → q < s → Stands (entryRecords s g k v) (entryAt s g p z q) k p z q (v p z q)
+  unfolding entryRecords
   entry-stands p z q hp hz hq = record { same = same }
     where
-      same : (j : ℕ) → j < 8 → getD (entryRecords s g k v) (8 * entryAt s g p z q + j) 0 ≡ getD (deliveryRecord (kindOf k) p z q (v p z q)) j 0
+      same : (j : ℕ) → j < 8
+          → getD (entryRecords s g k v) (8 * entryAt s g p z q + j) 0 ≡ getD (deliveryRecord (kindOf k) p z q (v p z q)) j 0
       same j l =
           let a : q * 8 + j < s * 8 = row-below s 8 q j hq l in
           let b : z * (s * 8) + (q * 8 + j) < g * (s * 8) = row-below g (s * 8) z (q * 8 + j) hz a in
           let e : 8 * entryAt s g p z q + j ≡ p * (g * (s * 8)) + (z * (s * 8) + (q * 8 + j)) = omega arith in
           ap (λ i. getD (entryRecords s g k v) i 0) e
-          ∙ getD-joined (g * (s * 8)) _ s (λ p l. rows-long p) p _ hp b
-          ∙ getD-joined (s * 8) (exits p) g (λ z l. exits-long p z) z _ hz a
-          ∙ getD-joined 8 _ s (λ q l. refl) q j hq l
+          ∙ getD-joined (g * (s * 8)) _ s (λ p hp. length-joined (s * 8) _ g (λ z hz. length-joined 8 _ s (λ q hq. refl))) p _ hp b
+          ∙ getD-joined (s * 8) _ g (λ z hz. length-joined 8 _ s (λ q hq. refl)) z _ hz a
+          ∙ getD-joined 8 _ s (λ q hq. refl) q j hq l
 
 -- The block of mean steps.
 module _ (s g : ℕ) (r : RowVector) where
-  states-long : (p : ℕ) → length (joined g (λ z. deliveryRecord (kindOf Means) p z 0 (r p z))) ≡ g * 8
-  states-long p = length-joined 8 _ g (λ z l. refl)
-
   means-long : length (rowRecords s g r) ≡ 8 * rowsIn s g
   unfolding rowRecords
-  means-long = length-joined (g * 8) _ s (λ p l. states-long p) ∙ omega arith
+  means-long = length-joined (g * 8) _ s (λ p hp. length-joined 8 _ g (λ z hz. refl)) ∙ omega arith
 
   row-stands : (p z : ℕ) → p < s → z < g → Stands (rowRecords s g r) (rowAt g p z) Means p z 0 (r p z)
   unfolding rowRecords
@@ -133,8 +122,8 @@ module _ (s g : ℕ) (r : RowVector) where
           let a : z * 8 + j < g * 8 = row-below g 8 z j hz l in
           let e : 8 * rowAt g p z + j ≡ p * (g * 8) + (z * 8 + j) = omega arith in
           ap (λ i. getD (rowRecords s g r) i 0) e
-          ∙ getD-joined (g * 8) _ s (λ p l. states-long p) p _ hp a
-          ∙ getD-joined 8 _ g (λ z l. refl) z j hz l
+          ∙ getD-joined (g * 8) _ s (λ p hp. length-joined 8 _ g (λ z hz. refl)) p _ hp a
+          ∙ getD-joined 8 _ g (λ z hz. refl) z j hz l
 
 -- How many bytes the lowers and the mean steps of a shape have.
 abbrev lowerBytes : ℕ → ℕ → Shape → ℕ

@@ -69,7 +69,8 @@ rule-in-front r b h = go (r .push)
     go (two y x) = ap (rule _ _ _ _) (word-made (_ ∷ _ ∷ _ ∷ 2 ∷ y ∷ x ∷ []) b (r .weight) h)
 
 -- Reading what was made: as many records as rules, and the same rules.
-pub rules-of-made : (m : List Rule) → ((r : Rule) → In r m → RuleFits r) → (recordsOf (madeModel m) ≡ length m) × (rulesOf (madeModel m) ≡ m)
+pub rules-of-made : (m : List Rule) → ((r : Rule) → In r m → RuleFits r)
+    → (recordsOf (madeModel m) ≡ length m) × (rulesOf (madeModel m) ≡ m)
 unfolding madeModel recordsOf rulesOf listTo
 rules-of-made [] fit = (refl, refl)
 rules-of-made (r ∷ m) fit =
@@ -104,7 +105,8 @@ made-bytes (r ∷ m) fit =
 -- ---- making what was read
 
 -- The rule that L, Y and X say has them in its record, where what is not used is 0.
-push-back : (p z q l y x k : ℕ) → l ≤ 2 → (l ≡ 0 → y ≡ 0) → ((l ≡ 2 → ⊥) → x ≡ 0) → pushRecord p z q (pushOf l y x) k ≡ modelRecord p z q l y x k
+push-back : (p z q l y x k : ℕ) → l ≤ 2 → (l ≡ 0 → y ≡ 0) → ((l ≡ 2 → ⊥) → x ≡ 0)
+    → pushRecord p z q (pushOf l y x) k ≡ modelRecord p z q l y x k
 push-back p z q zero y x k h top-unused under-unused = rw (top-unused refl, under-unused (λ e. omega arith))
 push-back p z q (suc zero) y x k h top-unused under-unused = rw (under-unused (λ e. omega arith))
 push-back p z q (suc (suc zero)) y x k h top-unused under-unused = refl
@@ -161,3 +163,7 @@ unfolding rulesOf
 made-of-rules b m bytes =
     let whole : length b ≡ 10 * recordsOf b = m .records .whole in
     records-back b bytes (recordsOf b) (omega arith) (m .records .right) ∙ ap (λ n. take n b) (sym whole) ∙ take-length b
+
+-- So two files that say the same rules are the same bytes.
+pub told-by-rules : (b c : List ℕ) → ModelFile b → Bytes b → ModelFile c → Bytes c → rulesOf b ≡ rulesOf c → b ≡ c
+told-by-rules b c m bytes n bytes′ e = sym (made-of-rules b m bytes) ∙ ap madeModel e ∙ made-of-rules c n bytes′
