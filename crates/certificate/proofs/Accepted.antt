@@ -1,10 +1,10 @@
 -- The verdict accepts exactly a model file with a delivery file for it, a refusal is that of the first test that fails, and its shortfall
 -- is never above zero.
-use Prim.Native.Nat.{ℕ, zero, suc, _+_, _-_, _*_, _^_, _≤_, _<_}
+use Prim.Native.Nat.{ℕ, zero, suc, _-_, _*_, _^_, _≤_, _<_}
 use native.Mathlib.Omega.{arith}
 use mathlib.Core.Bool.{Bool, true, false, cond, _&&_, _||_, true≢false, and-eq-true-iff}
 use mathlib.Core.List.{List, [], _∷_, _++_}
-use mathlib.Core.Logic.{_↔_, Iff·trans, _⊎_, inl, inr}
+use mathlib.Core.Logic.{_↔_, _⊎_, inl, inr}
 use mathlib.Core.Path.{_≡_, refl, sym}
 use lib.Dec.{eqb, leb, ltb}
 use lib.IntN.{ℤ, pos, negsuc, subℕ, pos-ne-negsuc}
@@ -12,8 +12,8 @@ use borrow.Author.Tests.{ltb-true, ltb-false, leb-true, leb-false, eqb-true, not
 use Rattle.outcome.specs.declared.Reason.{Reason}
 use Rattle.outcome.specs.declared.Outcome.the-variants.{Accepted, Refused}
 use Rattle.outcome.specs.Tests.{Test, plain, refusal, first, each, Passed, FirstFailure}
-use Rattle.outcome.proofs.Exactly.{not-lt-exactly, le-exactly, eq-exactly, both, not-exactly, and-fails, or-fails}
-use Rattle.outcome.proofs.Tests.{accepted-exactly, refused-exactly, first-failure, first-stands, passed-one, passed-append, passed-each}
+use Rattle.outcome.proofs.Exactly.{not-lt-exactly, not-exactly, and-fails, or-fails}
+use Rattle.outcome.proofs.Tests.{accepted-exactly, refused-exactly, first-failure, first-stands, passed-append}
 use Rattle.ppda.specs.Sums.{In}
 use Rattle.ppda.specs.Rules.{Rule, IsModel}
 use Rattle.ppda.specs.Equations.{f}
@@ -33,73 +33,16 @@ use Rattle.delivery.specs.declared.shape.Block.the-variants.{Uppers, Lowers, Me
 use Rattle.delivery.specs.declared.shape.Shape.{Shape}
 use Rattle.delivery.specs.declared.shape.Shaped.{Shaped}
 use Rattle.delivery.specs.declared.shape.Shaped.the-variants.{Of, Unknown}
-use Rattle.delivery.specs.Records.{byteOf, valueAt, kindOf, leastOf, mostOf}
-use Rattle.delivery.specs.Shapes.{hasLowers, hasMeans, meansFrom, shapeOf}
-use Rattle.ppda.specs.Order.{entriesIn, entryAt, rowAt, AtEntries, AtRows}
+use Rattle.ppda.specs.Order.{AtEntries}
+use Rattle.delivery.specs.Shapes.{hasLowers, hasMeans, shapeOf}
 use Rattle.delivery.specs.Numbers.{uppersOf, lowersOf, meansOf}
-use Rattle.delivery.specs.Layout.{eachEntry, eachRow, onlyIf, isDue, inRange, recordTests, upperRecords, lowerRecords, meanRecords, layoutTests}
+use Rattle.delivery.specs.Layout.{eachEntry, eachRow, onlyIf, recordTests, upperRecords, lowerRecords, meanRecords, layoutTests}
+use Rattle.delivery.proofs.Says.{Says, says-append, says-only, says-entries, says-rows, says-one, due-exactly, range-exactly, AtRecords, says-layout}
 use Rattle.inequalities.specs.Inequalities.{deadTest, upperTest, belowTest, lowerTest, meanTest, deadTests, upperTests, belowTests, lowerTests, meanTests}
 use Rattle.certificate.specs.Verdict.{numberTests, shapedTests, deliveryTests, verdict}
 use Rattle.certificate.specs.Accepted.{RecordDue, UppersRight, LowersRight, MeansRight, DeliveryFile, Filed}
 
--- ---- lists of tests
-
--- No test of the list fails exactly where A holds.
-record Says (ts : List Test) (A : Type 0) : Type 0 where
-  exactly : Passed ts ↔ A
-
-says-append : {A B : Type 0} {xs ys : List Test} → Says xs A → Says ys B → Says (xs ++ ys) (A × B)
-says-append {xs = xs} {ys = ys} f g =
-    record {
-      exactly = (
-        λ h. let p = passed-append xs ys .0 h in (f .exactly .0 (p .0), g .exactly .0 (p .1)),
-        λ h. passed-append xs ys .1 (f .exactly .1 (h .0), g .exactly .1 (h .1)),
-      );
-    }
-
-says-only : {A : Type 0} {ts : List Test} (t : Bool) → Says ts A → Says (onlyIf t ts) (t ≡ true → A)
-says-only true f = record { exactly = (λ h e. f .exactly .0 h, λ h. f .exactly .1 (h refl)) }
-says-only false f = record { exactly = (λ h e. absurd (true≢false (sym e)), λ h. tt) }
-
-says-entries : {s g : ℕ} {h : ℕ → ℕ → ℕ → List Test} {P : ℕ → ℕ → ℕ → Type 0} → ((p z q : ℕ) → Says (h p z q) (P p z q))
-    → Says (eachEntry s g h) (AtEntries s g P)
-unfolding eachEntry
-says-entries {s} {g} {h} e =
-    record {
-      exactly = (
-        λ a p z q hp hz hq. e p z q .exactly .0 (passed-each s (h p z) .0 (passed-each g _ .0 (passed-each s _ .0 a p hp) z hz) q hq),
-        λ a. passed-each s _ .1 (λ p hp.
-            passed-each g _ .1 (λ z hz. passed-each s (h p z) .1 (λ q hq. e p z q .exactly .1 (a p z q hp hz hq)))),
-      );
-    }
-
-says-rows : {s g : ℕ} {h : ℕ → ℕ → List Test} {P : ℕ → ℕ → Type 0} → ((p z : ℕ) → Says (h p z) (P p z))
-    → Says (eachRow s g h) (AtRows s g P)
-unfolding eachRow
-says-rows {s} {g} {h} e =
-    record {
-      exactly = (
-        λ a p z hp hz. e p z .exactly .0 (passed-each g (h p) .0 (passed-each s _ .0 a p hp) z hz),
-        λ a. passed-each s _ .1 (λ p hp. passed-each g (h p) .1 (λ z hz. e p z .exactly .1 (a p z hp hz))),
-      );
-    }
-
--- One test.
-says-one : {A : Type 0} {t : Test} → (t .fails ≡ false) ↔ A → Says (t ∷ []) A
-says-one {t = t} f = record { exactly = Iff·trans (passed-one t) f }
-
 -- ---- each test
-
-due-exactly : (d : List ℕ) (i : ℕ) (k : Block) (p z q : ℕ) → (isDue d i k p z q ≡ true)
-    ↔ ((kindAt d i ≡ kindOf k) × ((stateAt d i ≡ p) × ((symbolAt d i ≡ z) × (exitAt d i ≡ q))))
-unfolding isDue
-due-exactly d i k p z q =
-    both _ _ (eq-exactly (kindAt d i) (kindOf k))
-    (both _ _ (eq-exactly (stateAt d i) p) (both _ _ (eq-exactly (symbolAt d i) z) (eq-exactly (exitAt d i) q)))
-
-range-exactly : (d : List ℕ) (i : ℕ) (k : Block) → (inRange d i k ≡ true) ↔ ((leastOf k ≤ valueAt d i) × (valueAt d i ≤ mostOf k))
-unfolding inRange
-range-exactly d i k = both _ _ (le-exactly (leastOf k) (valueAt d i)) (le-exactly (valueAt d i) (mostOf k))
 
 says-due : (d : List ℕ) (i : ℕ) (k : Block) (p z q : ℕ) → Says (recordTests d i k p z q) (RecordDue d i k p z q)
 unfolding recordTests
@@ -160,20 +103,10 @@ UppersHold b s g lowers d =
 
 -- What 21 and 22 ask of a file of shape h: each record is due.
 abbrev pub LayoutRight : ℕ → ℕ → Shape → List ℕ → Type 0
-LayoutRight s g h d =
-    AtEntries s g (λ p z q. RecordDue d (entryAt s g p z q) Uppers p z q)
-    × ((hasLowers h ≡ true → AtEntries s g (λ p z q. RecordDue d (entriesIn s g + entryAt s g p z q) Lowers p z q))
-    × (hasMeans h ≡ true → AtRows s g (λ p z. RecordDue d (meansFrom s g h + rowAt g p z) Means p z 0)))
-
-says-layout : (s g : ℕ) (h : Shape) (d : List ℕ) → Says (layoutTests s g h d) (LayoutRight s g h d)
-unfolding layoutTests upperRecords lowerRecords meanRecords
-says-layout s g h d =
-    says-append (says-entries (λ p z q. says-due d _ Uppers p z q))
-    (says-append (says-only (hasLowers h) (says-entries (λ p z q. says-due d _ Lowers p z q)))
-    (says-only (hasMeans h) (says-rows (λ p z. says-due d _ Means p z 0))))
+LayoutRight s g h d = AtRecords s g h (RecordDue d)
 
 pub layout-right : (s g : ℕ) (h : Shape) (d : List ℕ) → first (layoutTests s g h d) ≡ Accepted → LayoutRight s g h d
-layout-right s g h d e = says-layout s g h d .exactly .0 (accepted-exactly (layoutTests s g h d) .0 e)
+layout-right s g h d e = says-layout s g h d (says-due d) .exactly .0 (accepted-exactly (layoutTests s g h d) .0 e)
 
 module _ (b : List ℕ) (s g : ℕ) (h : Shape) (d : List ℕ) where
   says-numbers : Says (numberTests b s g h d)
@@ -217,7 +150,7 @@ record BlocksRight (b : List ℕ) (s g : ℕ) (h : Shape) (d : List ℕ) : Type 
 module _ (b : List ℕ) (s g : ℕ) (model : IsModel s g (rulesOf b)) (h : Shape) (d : List ℕ) where
   blocks-of-passed : Passed (layoutTests s g h d ++ numberTests b s g h d) → BlocksRight b s g h d
   blocks-of-passed passed =
-      let (layout, numbers) = says-append (says-layout s g h d) (says-numbers b s g h d) .exactly .0 passed in
+      let (layout, numbers) = says-append (says-layout s g h d (says-due d)) (says-numbers b s g h d) .exactly .0 passed in
       let (uppers, (lowers, means)) = layout in
       let (dead, (dead-lowers, (hold, (below, (lower, mean))))) = numbers in
       record {
@@ -238,7 +171,7 @@ module _ (b : List ℕ) (s g : ℕ) (model : IsModel s g (rulesOf b)) (h : Shape
 
   passed-of-blocks : BlocksRight b s g h d → Passed (layoutTests s g h d ++ numberTests b s g h d)
   passed-of-blocks r =
-      says-append (says-layout s g h d) (says-numbers b s g h d) .exactly .1 (
+      says-append (says-layout s g h d (says-due d)) (says-numbers b s g h d) .exactly .1 (
         (r .uppers .due, (λ e. r .lowers e .due, λ e. r .means e .due)),
         (
           λ p z q hp hz hq a. r .uppers .dead p z q hp hz hq (dead-exactly model hp hz hq .0 a),

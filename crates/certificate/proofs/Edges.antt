@@ -15,6 +15,7 @@ use Rattle.ppda.specs.Margin.{share, shareAt, margin}
 use Rattle.model.specs.Records.{recordsOf, field, weight, greatestTo, statesOf, symbolsOf}
 use Rattle.model.specs.Rules.{ruleOf, listTo, rulesOf, rowOf, rowSum}
 use Rattle.model.specs.Verdict.{wholeRecords, rangeAt, unusedAt, weightAt, ascends, recordTests, rowTests, modelTests, modelVerdict}
+use Rattle.model.specs.Made.{modelRecord, madeModel}
 use Rattle.model.specs.W.{wFile}
 use Rattle.delivery.specs.Records.{byteOf, valueAt}
 use Rattle.delivery.specs.Shapes.{meansFrom, recordsIn, longAs, lowersOrMeans, shapeOf}
@@ -25,7 +26,7 @@ use Rattle.delivery.specs.Layout.{eachEntry, eachRow, isDue, inRange, upperReco
 use Rattle.inequalities.specs.Inequalities.{deadTest, upperTest, belowTest, lowerTest, meanTest, deadTests, upperTests, belowTests, lowerTests, meanTests}
 use Rattle.certificate.specs.Verdict.{numberTests, shapedTests, deliveryTests}
 use Rattle.certificate.specs.Margin.{marginOf, shownMargin}
-use Rattle.certificate.specs.Edges.{zToZ, AllHold, wDelivery, said, edges, answered, dueTo, badInputs, failTwice, placesAndEnds, greatest, lastUpper}
+use Rattle.certificate.specs.Edges.{zToZ, AllHold, wDelivery, edges, answered, dueTo, badInputs, failTwice, placesAndEnds, greatest, lastUpper}
 use Rattle.model.proofs.Accepted.{model-accepted, is-model}
 use Rattle.certificate.proofs.Accepted.{dead-exactly}
 
@@ -101,7 +102,7 @@ unfolding first each wordAt sign sum sumTo leastTo fits overRow f meanSide mark 
 last-upper-answered = refl
 
 -- The records of two rules, with different symbols pushed.
-pub rules-said : rulesOf (said 1 2 3 2 4 5 65536 ++ said 1 2 3 1 4 0 7) ≡ rule 1 2 3 (two 4 5) 65536 ∷ rule 1 2 3 (one 4) 7 ∷ []
+pub rules-said : rulesOf (modelRecord 1 2 3 2 4 5 65536 ++ modelRecord 1 2 3 1 4 0 7) ≡ rule 1 2 3 (two 4 5) 65536 ∷ rule 1 2 3 (one 4) 7 ∷ []
 unfolding rulesOf listTo ruleOf recordsOf field weight wordAt
 rules-said = refl
 
@@ -109,6 +110,11 @@ rules-said = refl
 pub w-said : rulesOf wFile ≡ w
 unfolding rulesOf listTo ruleOf recordsOf field weight wordAt
 w-said = refl
+
+-- And they are the bytes made of them.
+pub w-made : madeModel w ≡ wFile
+unfolding madeModel
+w-made = refl
 
 -- The delivery of the table has document 01's numbers.
 pub w-numbers : listTo (valueAt (wDelivery 524288 512)) 10

@@ -1,6 +1,6 @@
 -- The starred edges of document 01 ("Edges"), as one table of cases over the definitions; and tables of bad input, of files that fail twice, and
 -- of the ends of ranges. Outcomes stand by document 01's numbers.
-use Prim.Native.Nat.{ℕ, _/_, _%_}
+use Prim.Native.Nat.{ℕ}
 use mathlib.Core.List.{List, [], _∷_, _++_}
 use mathlib.Core.Path.{_≡_}
 use lib.IntN.{ℤ, pos, negsuc}
@@ -10,7 +10,9 @@ use Rattle.outcome.specs.declared.Outcome.the-variants.{Accepted, Refused}
 use Rattle.outcome.specs.Reasons.{numberOf}
 use Rattle.ppda.specs.Live.{Live}
 use Rattle.model.specs.Rules.{rulesOf}
+use Rattle.model.specs.Made.{modelRecord}
 use Rattle.model.specs.W.{wFile}
+use Rattle.delivery.specs.Made.{deliveryRecord}
 use Rattle.certificate.specs.declared.answer.Margin.the-variants.{Shown}
 use Rattle.certificate.specs.Verdict.{verdict}
 use Rattle.certificate.specs.Margin.{shownMargin}
@@ -49,36 +51,26 @@ AllHold (c ∷ cs) = Claimed (c .model) (c .delivery) (c .claim) × AllHold cs
 abbrev pub case : List ℕ → List ℕ → Claim → Case
 case b d k = record { model = b; delivery = d; claim = k }
 
--- A number as four bytes, low byte first; a record of a model: p Z q L Y X and the weight; a record of a delivery: kind, p, Z, q and the value.
-abbrev pub fourBytes : ℕ → List ℕ
-fourBytes n = n % 256 ∷ n / 256 % 256 ∷ n / 65536 % 256 ∷ n / 16777216 ∷ []
-
-abbrev pub said : ℕ → ℕ → ℕ → ℕ → ℕ → ℕ → ℕ → List ℕ
-said p z q l y x k = p ∷ z ∷ q ∷ l ∷ y ∷ x ∷ fourBytes k
-
-abbrev pub line : ℕ → ℕ → ℕ → ℕ → ℕ → List ℕ
-line k p z q v = k ∷ p ∷ z ∷ q ∷ fourBytes v
-
 -- A delivery of shape ULR for W, with the uppers of (0, 0, 1) and (1, 0, 0), the lowers of (0, 0, 0), (1, 0, 0) and (1, 0, 1), and the
 -- first mean steps left open; and that of document 01, with the second upper and the first mean steps left open.
 abbrev pub wOther : ℕ → ℕ → ℕ → ℕ → ℕ → ℕ → List ℕ
 wOther u v k l m r =
-    line 85 0 0 0 655360 ++ (line 85 0 0 1 u ++ (line 85 1 0 0 v ++ (line 85 1 0 1 1179648
-    ++ (line 76 0 0 0 k ++ (line 76 0 0 1 393216 ++ (line 76 1 0 0 l ++ (line 76 1 0 1 m
-    ++ (line 82 0 0 0 r ++ line 82 1 0 0 256))))))))
+    deliveryRecord 85 0 0 0 655360 ++ (deliveryRecord 85 0 0 1 u ++ (deliveryRecord 85 1 0 0 v ++ (deliveryRecord 85 1 0 1 1179648
+    ++ (deliveryRecord 76 0 0 0 k ++ (deliveryRecord 76 0 0 1 393216 ++ (deliveryRecord 76 1 0 0 l ++ (deliveryRecord 76 1 0 1 m
+    ++ (deliveryRecord 82 0 0 0 r ++ deliveryRecord 82 1 0 0 256))))))))
 
 abbrev pub wDelivery : ℕ → ℕ → List ℕ
 wDelivery u r = wOther u 0 524288 0 1048576 r
 
 -- One state and one symbol: a record that pushes nothing and one that pushes two, with these weights; one that pushes nothing; Z to Z.
 abbrev pub oneState : ℕ → ℕ → List ℕ
-oneState a b = said 0 0 0 0 0 0 a ++ said 0 0 0 2 0 0 b
+oneState a b = modelRecord 0 0 0 0 0 0 a ++ modelRecord 0 0 0 2 0 0 b
 
 abbrev pub oneRule : ℕ → List ℕ
-oneRule k = said 0 0 0 0 0 0 k
+oneRule k = modelRecord 0 0 0 0 0 0 k
 
 abbrev pub zToZ : List ℕ
-zToZ = said 0 0 0 1 0 0 65536
+zToZ = modelRecord 0 0 0 1 0 0 65536
 
 -- The starred edges, in the order of document 01. `negsuc n` is −(n + 1).
 abbrev pub edges : List Case
@@ -90,11 +82,12 @@ edges =
     ∷ case wFile (wDelivery 466033 512) (verdictIs (refused 24 1 (negsuc 30064771071)))
     ∷ case wFile (wDelivery 524288 486) (verdictIs accepted)
     ∷ case wFile (wDelivery 524288 485) (verdictIs (refused 27 8 (negsuc 2147483647)))
-    ∷ case (oneState 49152 16384) (line 85 0 0 0 1048576 ++ line 82 0 0 0 512) (verdictIs accepted)
-    ∷ case (oneState 49152 16384) (line 85 0 0 0 1048576 ++ line 82 0 0 0 511) (verdictIs (refused 27 1 (negsuc 34359738367)))
-    ∷ case (oneState 49152 16384) (line 85 0 0 0 1048576 ++ line 76 0 0 0 0) (verdictIs (refused 24 0 (pos 0)))
-    ∷ case (oneState 32768 32768) (line 85 0 0 0 1048576) (verdictIs accepted)
-    ∷ case (oneState 16384 49152) (line 85 0 0 0 524288 ++ line 76 0 0 0 1048576) (verdictIs (refused 25 1 (pos 0)))
+    ∷ case (oneState 49152 16384) (deliveryRecord 85 0 0 0 1048576 ++ deliveryRecord 82 0 0 0 512) (verdictIs accepted)
+    ∷ case (oneState 49152 16384) (deliveryRecord 85 0 0 0 1048576 ++ deliveryRecord 82 0 0 0 511)
+    (verdictIs (refused 27 1 (negsuc 34359738367)))
+    ∷ case (oneState 49152 16384) (deliveryRecord 85 0 0 0 1048576 ++ deliveryRecord 76 0 0 0 0) (verdictIs (refused 24 0 (pos 0)))
+    ∷ case (oneState 32768 32768) (deliveryRecord 85 0 0 0 1048576) (verdictIs accepted)
+    ∷ case (oneState 16384 49152) (deliveryRecord 85 0 0 0 524288 ++ deliveryRecord 76 0 0 0 1048576) (verdictIs (refused 25 1 (pos 0)))
     ∷ case zToZ [] (isDead 0 0 0)
     ∷ []
 
@@ -125,51 +118,51 @@ badInputs =
     input [] [] (refusedAt 10 0)
     ∷ input (take 39 wFile) [] (refusedAt 10 0)
     ∷ input (wFile ++ (0 ∷ [])) [] (refusedAt 10 0)
-    ∷ input (said 8 0 0 0 0 0 65536) [] (refusedAt 11 0)
-    ∷ input (said 0 16 0 0 0 0 65536) [] (refusedAt 11 0)
-    ∷ input (said 0 0 8 0 0 0 65536) [] (refusedAt 11 0)
-    ∷ input (said 0 0 0 3 0 0 65536) [] (refusedAt 11 0)
-    ∷ input (said 0 0 0 2 16 0 65536) [] (refusedAt 11 0)
-    ∷ input (said 0 0 0 2 0 16 65536) [] (refusedAt 11 0)
-    ∷ input (said 0 0 0 0 16 1 0) [] (refusedAt 11 0)
-    ∷ input (said 0 0 0 0 1 0 65536) [] (refusedAt 12 0)
-    ∷ input (said 0 0 0 1 0 1 65536) [] (refusedAt 12 0)
+    ∷ input (modelRecord 8 0 0 0 0 0 65536) [] (refusedAt 11 0)
+    ∷ input (modelRecord 0 16 0 0 0 0 65536) [] (refusedAt 11 0)
+    ∷ input (modelRecord 0 0 8 0 0 0 65536) [] (refusedAt 11 0)
+    ∷ input (modelRecord 0 0 0 3 0 0 65536) [] (refusedAt 11 0)
+    ∷ input (modelRecord 0 0 0 2 16 0 65536) [] (refusedAt 11 0)
+    ∷ input (modelRecord 0 0 0 2 0 16 65536) [] (refusedAt 11 0)
+    ∷ input (modelRecord 0 0 0 0 16 1 0) [] (refusedAt 11 0)
+    ∷ input (modelRecord 0 0 0 0 1 0 65536) [] (refusedAt 12 0)
+    ∷ input (modelRecord 0 0 0 1 0 1 65536) [] (refusedAt 12 0)
     ∷ input (oneRule 0) [] (refusedAt 13 0)
     ∷ input (oneRule 65537) [] (refusedAt 13 0)
     ∷ input (oneRule 32768 ++ oneRule 32768) [] (refusedAt 14 1)
-    ∷ input (said 0 0 0 1 0 0 32768 ++ oneRule 32768) [] (refusedAt 14 1)
+    ∷ input (modelRecord 0 0 0 1 0 0 32768 ++ oneRule 32768) [] (refusedAt 14 1)
     ∷ input (oneRule 65535) [] (refusedAt 15 0)
-    ∷ input (oneRule 65536 ++ said 0 1 0 0 0 0 65535) [] (refusedAt 15 1)
+    ∷ input (oneRule 65536 ++ modelRecord 0 1 0 0 0 0 65535) [] (refusedAt 15 1)
     ∷ input (oneRule 65536) [] (refusedAt 20 0)
-    ∷ input (oneRule 65536) (take 7 (line 85 0 0 0 1048576)) (refusedAt 20 0)
-    ∷ input (oneRule 65536) (line 85 0 0 0 1048576 ++ (0 ∷ [])) (refusedAt 20 0)
-    ∷ input (oneRule 65536) (line 76 0 0 0 1048576) (refusedAt 21 0)
-    ∷ input (oneRule 65536) (line 85 1 0 0 1048576) (refusedAt 21 0)
-    ∷ input (oneRule 65536) (line 85 0 1 0 1048576) (refusedAt 21 0)
-    ∷ input (oneRule 65536) (line 85 0 0 1 1048576) (refusedAt 21 0)
-    ∷ input (oneRule 65536) (line 85 0 0 0 2097152) accepted
-    ∷ input (oneRule 65536) (line 85 0 0 0 2097153) (refusedAt 22 0)
-    ∷ input (oneRule 65536) (line 85 0 0 0 1048577 ++ line 76 0 0 0 2097153) (refusedAt 22 1)
-    ∷ input (oneRule 65536) (line 85 0 0 0 1048577 ++ line 76 0 0 0 256) accepted
-    ∷ input (oneRule 65536) (line 85 0 0 0 1048577 ++ line 82 0 0 0 255) (refusedAt 22 1)
-    ∷ input (oneRule 65536) (line 85 0 0 0 1048577 ++ line 82 0 0 0 256) accepted
-    ∷ input (oneRule 65536) (line 85 0 0 0 1048577 ++ line 82 0 0 0 4194305) (refusedAt 22 1)
-    ∷ input (oneRule 65536) (line 85 0 0 0 1048577 ++ line 0 0 0 0 256) (refusedAt 21 1)
-    ∷ input zToZ (line 85 0 0 0 1) (refusedAt 23 0)
-    ∷ input zToZ (line 85 0 0 0 0 ++ line 76 0 0 0 1) (refusedAt 23 1)
-    ∷ input (oneRule 65536) (line 85 0 0 0 1048577 ++ line 76 0 0 0 1048577) (refused 26 1 (negsuc 68719476735))
+    ∷ input (oneRule 65536) (take 7 (deliveryRecord 85 0 0 0 1048576)) (refusedAt 20 0)
+    ∷ input (oneRule 65536) (deliveryRecord 85 0 0 0 1048576 ++ (0 ∷ [])) (refusedAt 20 0)
+    ∷ input (oneRule 65536) (deliveryRecord 76 0 0 0 1048576) (refusedAt 21 0)
+    ∷ input (oneRule 65536) (deliveryRecord 85 1 0 0 1048576) (refusedAt 21 0)
+    ∷ input (oneRule 65536) (deliveryRecord 85 0 1 0 1048576) (refusedAt 21 0)
+    ∷ input (oneRule 65536) (deliveryRecord 85 0 0 1 1048576) (refusedAt 21 0)
+    ∷ input (oneRule 65536) (deliveryRecord 85 0 0 0 2097152) accepted
+    ∷ input (oneRule 65536) (deliveryRecord 85 0 0 0 2097153) (refusedAt 22 0)
+    ∷ input (oneRule 65536) (deliveryRecord 85 0 0 0 1048577 ++ deliveryRecord 76 0 0 0 2097153) (refusedAt 22 1)
+    ∷ input (oneRule 65536) (deliveryRecord 85 0 0 0 1048577 ++ deliveryRecord 76 0 0 0 256) accepted
+    ∷ input (oneRule 65536) (deliveryRecord 85 0 0 0 1048577 ++ deliveryRecord 82 0 0 0 255) (refusedAt 22 1)
+    ∷ input (oneRule 65536) (deliveryRecord 85 0 0 0 1048577 ++ deliveryRecord 82 0 0 0 256) accepted
+    ∷ input (oneRule 65536) (deliveryRecord 85 0 0 0 1048577 ++ deliveryRecord 82 0 0 0 4194305) (refusedAt 22 1)
+    ∷ input (oneRule 65536) (deliveryRecord 85 0 0 0 1048577 ++ deliveryRecord 0 0 0 0 256) (refusedAt 21 1)
+    ∷ input zToZ (deliveryRecord 85 0 0 0 1) (refusedAt 23 0)
+    ∷ input zToZ (deliveryRecord 85 0 0 0 0 ++ deliveryRecord 76 0 0 0 1) (refusedAt 23 1)
+    ∷ input (oneRule 65536) (deliveryRecord 85 0 0 0 1048577 ++ deliveryRecord 76 0 0 0 1048577) (refused 26 1 (negsuc 68719476735))
     ∷ []
 
 -- Files that fail twice: the first failure in the fixed order is named.
 abbrev pub failTwice : List Input
 failTwice =
-    input (said 0 0 0 0 1 0 0) [] (refusedAt 12 0)
+    input (modelRecord 0 0 0 0 1 0 0) [] (refusedAt 12 0)
     ∷ input (oneRule 32768 ++ oneRule 0) [] (refusedAt 13 1)
-    ∷ input (oneRule 0 ++ said 8 0 0 0 0 0 1) [] (refusedAt 13 0)
-    ∷ input (oneRule 32768 ++ (oneRule 32768 ++ said 8 0 0 0 0 0 1)) [] (refusedAt 14 1)
-    ∷ input (oneRule 65535) (line 85 0 0 0 1048576) (refusedAt 15 0)
-    ∷ input (oneRule 65536) (line 76 0 0 0 2097153) (refusedAt 21 0)
-    ∷ input (oneRule 65536) (line 85 0 0 0 2097153 ++ line 76 1 0 0 0) (refusedAt 22 0)
+    ∷ input (oneRule 0 ++ modelRecord 8 0 0 0 0 0 1) [] (refusedAt 13 0)
+    ∷ input (oneRule 32768 ++ (oneRule 32768 ++ modelRecord 8 0 0 0 0 0 1)) [] (refusedAt 14 1)
+    ∷ input (oneRule 65535) (deliveryRecord 85 0 0 0 1048576) (refusedAt 15 0)
+    ∷ input (oneRule 65536) (deliveryRecord 76 0 0 0 2097153) (refusedAt 21 0)
+    ∷ input (oneRule 65536) (deliveryRecord 85 0 0 0 2097153 ++ deliveryRecord 76 1 0 0 0) (refusedAt 22 0)
     ∷ input wFile (wOther 524288 1 524288 1 1048576 512) (refusedAt 23 2)
     ∷ input wFile (wOther 466033 0 524288 1 1048576 512) (refusedAt 23 6)
     ∷ input wFile (wOther 466033 0 655361 0 1048576 512) (refused 24 1 (negsuc 30064771071))
@@ -180,19 +173,19 @@ failTwice =
 -- The ends of ranges, the sizes that each field makes, and places in later rows and blocks.
 abbrev pub placesAndEnds : List Input
 placesAndEnds =
-    input (oneRule 65535 ++ said 0 0 0 2 0 0 1) [] (refusedAt 20 0)
-    ∷ input (said 0 0 0 2 0 0 32768 ++ said 0 0 0 2 0 1 32768) [] (refusedAt 15 1)
-    ∷ input (said 0 0 0 2 0 1 32768 ++ said 0 0 0 2 1 0 32768) [] (refusedAt 15 1)
-    ∷ input (said 0 0 1 0 0 0 65536) [] (refusedAt 15 1)
-    ∷ input (said 0 0 0 1 1 0 65536) [] (refusedAt 15 1)
-    ∷ input (said 0 0 0 2 0 1 65536) [] (refusedAt 15 1)
-    ∷ input (said 0 0 1 0 0 0 65536 ++ said 0 2 0 0 0 0 65536) [] (refusedAt 15 1)
-    ∷ input (said 0 0 1 0 0 0 65536 ++ (said 0 1 0 0 0 0 65536 ++ said 0 2 0 0 0 0 65536)) [] (refusedAt 15 3)
-    ∷ input (oneRule 65536) (line 85 0 0 0 1048577 ++ line 76 0 1 0 256) (refusedAt 21 1)
-    ∷ input (oneRule 65536) (line 85 0 0 0 1048577 ++ line 82 1 0 0 256) (refusedAt 21 1)
-    ∷ input (oneRule 65536) (line 85 0 0 0 1048577 ++ line 82 0 0 1 256) (refusedAt 21 1)
-    ∷ input (oneRule 65536) (line 85 0 0 0 2097152 ++ line 76 0 0 0 2097152) (refused 26 1 (negsuc 72057594037927935))
-    ∷ input (oneRule 65536) (line 85 0 0 0 1048577 ++ line 82 0 0 0 4194304) accepted
+    input (oneRule 65535 ++ modelRecord 0 0 0 2 0 0 1) [] (refusedAt 20 0)
+    ∷ input (modelRecord 0 0 0 2 0 0 32768 ++ modelRecord 0 0 0 2 0 1 32768) [] (refusedAt 15 1)
+    ∷ input (modelRecord 0 0 0 2 0 1 32768 ++ modelRecord 0 0 0 2 1 0 32768) [] (refusedAt 15 1)
+    ∷ input (modelRecord 0 0 1 0 0 0 65536) [] (refusedAt 15 1)
+    ∷ input (modelRecord 0 0 0 1 1 0 65536) [] (refusedAt 15 1)
+    ∷ input (modelRecord 0 0 0 2 0 1 65536) [] (refusedAt 15 1)
+    ∷ input (modelRecord 0 0 1 0 0 0 65536 ++ modelRecord 0 2 0 0 0 0 65536) [] (refusedAt 15 1)
+    ∷ input (modelRecord 0 0 1 0 0 0 65536 ++ (modelRecord 0 1 0 0 0 0 65536 ++ modelRecord 0 2 0 0 0 0 65536)) [] (refusedAt 15 3)
+    ∷ input (oneRule 65536) (deliveryRecord 85 0 0 0 1048577 ++ deliveryRecord 76 0 1 0 256) (refusedAt 21 1)
+    ∷ input (oneRule 65536) (deliveryRecord 85 0 0 0 1048577 ++ deliveryRecord 82 1 0 0 256) (refusedAt 21 1)
+    ∷ input (oneRule 65536) (deliveryRecord 85 0 0 0 1048577 ++ deliveryRecord 82 0 0 1 256) (refusedAt 21 1)
+    ∷ input (oneRule 65536) (deliveryRecord 85 0 0 0 2097152 ++ deliveryRecord 76 0 0 0 2097152) (refused 26 1 (negsuc 72057594037927935))
+    ∷ input (oneRule 65536) (deliveryRecord 85 0 0 0 1048577 ++ deliveryRecord 82 0 0 0 4194304) accepted
     ∷ input wFile (wOther 524288 0 524288 1 1048576 512) (refusedAt 23 6)
     ∷ input wFile (wOther 524288 0 655361 0 1048576 512) (refusedAt 25 4)
     ∷ input wFile (wOther 524288 0 524288 0 1048577 512) (refused 26 7 (negsuc 68719476735))
@@ -200,13 +193,15 @@ placesAndEnds =
 
 -- The greatest state and symbols, for which there are 128 rows: the first is missing.
 abbrev pub greatest : List Input
-greatest = input (said 7 15 7 2 15 15 65536) [] (refusedAt 15 0) ∷ []
+greatest = input (modelRecord 7 15 7 2 15 15 65536) [] (refusedAt 15 0) ∷ []
 
 -- Two states and two symbols: the last of the eight uppers.
 abbrev pub lastUpper : List Input
 lastUpper =
-    input (said 0 0 0 0 0 0 65536 ++ (said 0 1 0 0 0 0 65536 ++ (said 1 0 0 0 0 0 65536 ++ said 1 1 0 0 0 0 65536)))
-    (line 85 0 0 0 0 ++ (line 85 0 0 1 0 ++ (line 85 0 1 0 0 ++ (line 85 0 1 1 0
-    ++ (line 85 1 0 0 0 ++ (line 85 1 0 1 0 ++ (line 85 1 1 0 0 ++ line 85 1 1 1 2097153)))))))
+    input
+    (modelRecord 0 0 0 0 0 0 65536 ++ (modelRecord 0 1 0 0 0 0 65536
+    ++ (modelRecord 1 0 0 0 0 0 65536 ++ modelRecord 1 1 0 0 0 0 65536)))
+    (deliveryRecord 85 0 0 0 0 ++ (deliveryRecord 85 0 0 1 0 ++ (deliveryRecord 85 0 1 0 0 ++ (deliveryRecord 85 0 1 1 0
+    ++ (deliveryRecord 85 1 0 0 0 ++ (deliveryRecord 85 1 0 1 0 ++ (deliveryRecord 85 1 1 0 0 ++ deliveryRecord 85 1 1 1 2097153)))))))
     (refusedAt 22 7)
     ∷ []

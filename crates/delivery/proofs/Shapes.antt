@@ -32,7 +32,7 @@ unfolding longAs
 not-long s g h d = ne-eqb _ _
 
 -- With one state, UL and UR are equally long.
-one-state : (s g : ℕ) → s ≡ 1 → recordsIn s g UL ≡ recordsIn s g UR
+pub one-state : (s g : ℕ) → s ≡ 1 → recordsIn s g UL ≡ recordsIn s g UR
 unfolding recordsIn meansFrom
 one-state s g e = rw e (omega arith)
 

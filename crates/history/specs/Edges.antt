@@ -5,7 +5,8 @@ use mathlib.Core.List.{List, [], _∷_, _++_, map}
 use mathlib.Core.Path.{_≡_}
 use lib.IntN.{negsuc}
 use Rattle.model.specs.W.{wFile}
-use Rattle.certificate.specs.Edges.{line, oneRule, wDelivery}
+use Rattle.delivery.specs.Made.{deliveryRecord}
+use Rattle.certificate.specs.Edges.{oneRule, wDelivery}
 use Rattle.register.specs.Filing as Filing
 use Rattle.history.specs.Calls.{Call, clear, fileModel, fileDelivery, upper, lower, meanSteps, margin, live, Reply, cleared, accepted, known, new, value, refused, refusal}
 use Rattle.history.specs.Plain.{Event, pairOf, plain}
@@ -31,16 +32,20 @@ Replied es = replies Filing.cleared (map callOf es) ≡ map replyDue es
 
 -- Deliveries for W: the uppers alone, with the last one open; with lowers; with mean steps.
 abbrev pub wUppersWith : ℕ → List ℕ
-wUppersWith u = line 85 0 0 0 655360 ++ (line 85 0 0 1 524288 ++ (line 85 1 0 0 0 ++ line 85 1 0 1 u))
+wUppersWith u =
+    deliveryRecord 85 0 0 0 655360 ++ (deliveryRecord 85 0 0 1 524288
+    ++ (deliveryRecord 85 1 0 0 0 ++ deliveryRecord 85 1 0 1 u))
 
 abbrev pub wUppers : List ℕ
 wUppers = wUppersWith 1179648
 
 abbrev pub wLowers : List ℕ
-wLowers = wUppers ++ (line 76 0 0 0 524288 ++ (line 76 0 0 1 393216 ++ (line 76 1 0 0 0 ++ line 76 1 0 1 1048576)))
+wLowers =
+    wUppers ++ (deliveryRecord 76 0 0 0 524288 ++ (deliveryRecord 76 0 0 1 393216
+    ++ (deliveryRecord 76 1 0 0 0 ++ deliveryRecord 76 1 0 1 1048576)))
 
 abbrev pub wMeans : List ℕ
-wMeans = wUppers ++ (line 82 0 0 0 512 ++ line 82 1 0 0 256)
+wMeans = wUppers ++ (deliveryRecord 82 0 0 0 512 ++ deliveryRecord 82 1 0 0 256)
 
 -- Nothing is held: 40, whatever is filed or asked.
 abbrev pub emptyExchanges : List Event

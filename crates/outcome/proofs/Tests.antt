@@ -116,7 +116,7 @@ pub each-more : (h : ℕ → List Test) (i : ℕ) → first (each i h) ≡ Accep
 each-more h i e f = ap first (each-step h i) ∙ first-after (each i h) (h i) e ∙ f
 
 -- Below suc n is n, or below n.
-last-or-below : {P : Type 0} (i n : ℕ) → i < suc n → (i ≡ n → P) → (i < n → P) → P
+pub last-or-below : {P : Type 0} (i n : ℕ) → i < suc n → (i ≡ n → P) → (i < n → P) → P
 last-or-below {P} i n l last below = go (eq-or-lt-of-le (le-of-suc-le-suc l))
   where
     go : (i ≡ n) ⊎ (i < n) → P

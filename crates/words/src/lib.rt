@@ -1,9 +1,9 @@
-// Numbers in a file: a byte, and four bytes with the low byte first.
+// Numbers in a file: a byte, and four bytes with the low byte first, read and written.
 
 ghost use mathlib.Core.Path.{_≡_};
 ghost use Prim.Native.Nat.{_+_, _<_, _^_};
 ghost use lib.ListN.{length, getD};
-ghost use Rattle.words.specs.Words.{wordAt};
+ghost use Rattle.words.specs.Words.{wordAt, fourBytes, written};
 
 // A byte as a wider number.
 fn wide(b: u8) -> u64
@@ -30,4 +30,15 @@ pub fn word(file: &[u8], at: usize) -> u64
     let c = wide(file[at + 2]);
     let d = wide(file[at + 3]);
     a + b * 256 + c * 65536 + d * 16777216
+}
+
+// The number put into the four places from `at` on.
+pub fn put_word(out: &mut [u8], at: usize, n: u32)
+    requires { ⌜ at + 3 < length (now out) ⌝ }
+    ensures { λ r. ⌜ now (out .exit) ≡ written (now (out .entry)) at (fourBytes n) ⌝ }
+{
+    out[at] = (n % 256) as u8;
+    out[at + 1] = (n / 256 % 256) as u8;
+    out[at + 2] = (n / 65536 % 256) as u8;
+    out[at + 3] = (n / 16777216 % 256) as u8;
 }
