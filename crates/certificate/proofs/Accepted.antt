@@ -2,13 +2,14 @@
 -- is never above zero.
 use Prim.Native.Nat.{ℕ, zero, suc, _-_, _*_, _^_, _≤_, _<_}
 use native.Mathlib.Omega.{arith}
-use mathlib.Core.Bool.{Bool, true, false, cond, _&&_, _||_, true≢false, and-eq-true-iff}
+use mathlib.Core.Bool.{Bool, true, false, not, cond, _&&_, _||_, true≢false, and-eq-true-iff}
 use mathlib.Core.List.{List, [], _∷_, _++_}
 use mathlib.Core.Logic.{_↔_, _⊎_, inl, inr}
-use mathlib.Core.Path.{_≡_, refl, sym}
-use lib.Dec.{eqb, leb, ltb}
+use mathlib.Core.Path.{_≡_, refl, sym, ap, _∙_}
+use lib.Dec.{leb, ltb}
 use lib.IntN.{ℤ, pos, negsuc, subℕ, pos-ne-negsuc}
-use borrow.Author.Tests.{ltb-true, ltb-false, leb-true, leb-false, eqb-true, not-false, le-ltb, lt-leb, eq-eqb}
+use borrow.Author.Tests.{ltb-true, ltb-false, leb-true, leb-false, eqb-true, not-true, not-false, le-ltb, lt-leb, eq-eqb}
+use Rattle.ppda.specs.Units.{chanceUnit, sumUnit}
 use Rattle.outcome.specs.declared.Reason.{Reason}
 use Rattle.outcome.specs.declared.Outcome.the-variants.{Accepted, Refused}
 use Rattle.outcome.specs.Tests.{Test, plain, refusal, first, each, Passed, FirstFailure}
@@ -17,15 +18,14 @@ use Rattle.outcome.proofs.Tests.{accepted-exactly, refused-exactly, first-failu
 use Rattle.ppda.specs.Sums.{In}
 use Rattle.ppda.specs.Rules.{Rule, IsModel}
 use Rattle.ppda.specs.Equations.{f}
-use Rattle.ppda.specs.Live.{alive, Live}
+use Rattle.ppda.specs.Live.{isLive, alive, Live}
 use Rattle.ppda.specs.Bounds as Bounds
 use Rattle.ppda.proofs.Lists.{in-append-cases, in-append-right}
 use Rattle.ppda.proofs.Live.{live-by-rounds}
-use Rattle.ppda.proofs.Marks.{alive-or-dead}
 use Rattle.model.specs.Records.{recordsOf, statesOf, symbolsOf}
 use Rattle.model.specs.Rules.{rulesOf}
 use Rattle.model.specs.Verdict as model
-use Rattle.model.specs.Verdict.{rowTests, modelTests, modelVerdict}
+use Rattle.model.specs.Verdict.{rowTests, rowsTests, modelTests, modelVerdict}
 use Rattle.model.specs.Accepted.{ModelFile}
 use Rattle.model.proofs.Accepted.{model-accepted, is-model}
 use Rattle.delivery.specs.declared.shape.Block.{Block}
@@ -33,7 +33,7 @@ use Rattle.delivery.specs.declared.shape.Block.the-variants.{Uppers, Lowers, Me
 use Rattle.delivery.specs.declared.shape.Shape.{Shape}
 use Rattle.delivery.specs.declared.shape.Shaped.{Shaped}
 use Rattle.delivery.specs.declared.shape.Shaped.the-variants.{Of, Unknown}
-use Rattle.ppda.specs.Order.{AtEntries}
+use Rattle.ppda.specs.Order.{rowsIn, AtEntries}
 use Rattle.delivery.specs.Shapes.{hasLowers, hasMeans, shapeOf}
 use Rattle.delivery.specs.Numbers.{uppersOf, lowersOf, meansOf}
 use Rattle.delivery.specs.Layout.{eachEntry, eachRow, onlyIf, recordTests, upperRecords, lowerRecords, meanRecords, layoutTests}
@@ -59,39 +59,39 @@ says-due d i k p z q =
       );
     }
 
-says-dead : (a v i : ℕ) → Says (deadTest a v i ∷ []) (a ≡ 0 → v ≡ 0)
+says-dead : (t : Bool) (v i : ℕ) → Says (deadTest t v i ∷ []) (t ≡ false → v ≡ 0)
 unfolding deadTest
-says-dead a v i =
+says-dead t v i =
     says-one (
-      λ h e. eqb-true v 0 (not-false _ (and-fails _ _ .0 h (eq-eqb a 0 e))),
-      λ h. and-fails _ _ .1 (λ e. not-exactly _ .1 (eq-eqb v 0 (h (eqb-true a 0 e)))),
+      λ h e. eqb-true v 0 (not-false _ (and-fails _ _ .0 h (ap not e))),
+      λ h. and-fails _ _ .1 (λ e. not-exactly _ .1 (eq-eqb v 0 (h (not-true t e)))),
     )
 
--- What 24 asks of an entry with the live mark a, the upper u and f(u) = y.
-abbrev UpperRight : Bool → ℕ → ℕ → ℕ → Type 0
-UpperRight lowers a u y = (y ≤ u * 2 ^ 36) × (lowers ≡ true → a ≡ 1 → y < u * 2 ^ 36)
+-- What 24 asks of an entry that is live or not, with the upper u and f(u) = y.
+abbrev UpperRight : Bool → Bool → ℕ → ℕ → Type 0
+UpperRight lowers t u y = (y ≤ u * sumUnit) × (lowers ≡ true → t ≡ true → y < u * sumUnit)
 
-says-upper : (lowers : Bool) (a u y i : ℕ) → Says (upperTest lowers a u y i ∷ []) (UpperRight lowers a u y)
+says-upper : (lowers t : Bool) (u y i : ℕ) → Says (upperTest lowers t u y i ∷ []) (UpperRight lowers t u y)
 unfolding upperTest
-says-upper lowers a u y i =
+says-upper lowers t u y i =
     says-one (
       λ h. let p = or-fails _ _ .0 h in
-          (ltb-false _ _ (p .0), λ e live. leb-false _ _ (and-fails _ _ .0 (and-fails _ _ .0 (p .1) e) (eq-eqb a 1 live))),
+          (ltb-false _ _ (p .0), λ e live. leb-false _ _ (and-fails _ _ .0 (and-fails _ _ .0 (p .1) e) live)),
       λ h. or-fails _ _ .1
-          (le-ltb _ _ (h .0), and-fails _ _ .1 (λ e. and-fails _ _ .1 (λ live. lt-leb _ _ (h .1 e (eqb-true a 1 live))))),
+          (le-ltb _ _ (h .0), and-fails _ _ .1 (λ e. and-fails _ _ .1 (λ live. lt-leb _ _ (h .1 e live)))),
     )
 
 says-below : (l u i : ℕ) → Says (belowTest l u i ∷ []) (l ≤ u)
 unfolding belowTest
 says-below l u i = says-one (not-lt-exactly u l)
 
-says-lower : (l y i : ℕ) → Says (lowerTest l y i ∷ []) (l * 2 ^ 36 ≤ y)
+says-lower : (l y i : ℕ) → Says (lowerTest l y i ∷ []) (l * sumUnit ≤ y)
 unfolding lowerTest
-says-lower l y i = says-one (not-lt-exactly y (l * 2 ^ 36))
+says-lower l y i = says-one (not-lt-exactly y (l * sumUnit))
 
-says-mean : (r y i : ℕ) → Says (meanTest r y i ∷ []) (y ≤ r * 2 ^ 36)
+says-mean : (r y i : ℕ) → Says (meanTest r y i ∷ []) (y ≤ r * sumUnit)
 unfolding meanTest
-says-mean r y i = says-one (not-lt-exactly (r * 2 ^ 36) y)
+says-mean r y i = says-one (not-lt-exactly (r * sumUnit) y)
 
 -- ---- the tests of a delivery
 
@@ -99,7 +99,7 @@ says-mean r y i = says-one (not-lt-exactly (r * 2 ^ 36) y)
 abbrev UppersHold : List ℕ → ℕ → ℕ → Bool → List ℕ → Type 0
 UppersHold b s g lowers d =
     AtEntries s g (λ p z q.
-    UpperRight lowers (alive (rulesOf b) s g p z q) (uppersOf s g d p z q) (f (rulesOf b) s (2 ^ 20) (uppersOf s g d) p z q))
+    UpperRight lowers (isLive (alive (rulesOf b) s g p z q)) (uppersOf s g d p z q) (f (rulesOf b) s chanceUnit (uppersOf s g d) p z q))
 
 -- What 21 and 22 ask of a file of shape h: each record is due.
 abbrev pub LayoutRight : ℕ → ℕ → Shape → List ℕ → Type 0
@@ -110,12 +110,12 @@ layout-right s g h d e = says-layout s g h d (says-due d) .exactly .0 (accepted-
 
 module _ (b : List ℕ) (s g : ℕ) (h : Shape) (d : List ℕ) where
   says-numbers : Says (numberTests b s g h d)
-      (AtEntries s g (λ p z q. alive (rulesOf b) s g p z q ≡ 0 → uppersOf s g d p z q ≡ 0)
-      × ((hasLowers h ≡ true → AtEntries s g (λ p z q. alive (rulesOf b) s g p z q ≡ 0 → lowersOf s g d p z q ≡ 0))
+      (AtEntries s g (λ p z q. isLive (alive (rulesOf b) s g p z q) ≡ false → uppersOf s g d p z q ≡ 0)
+      × ((hasLowers h ≡ true → AtEntries s g (λ p z q. isLive (alive (rulesOf b) s g p z q) ≡ false → lowersOf s g d p z q ≡ 0))
       × (UppersHold b s g (hasLowers h) d
       × ((hasLowers h ≡ true → AtEntries s g (λ p z q. lowersOf s g d p z q ≤ uppersOf s g d p z q))
       × ((hasLowers h ≡ true
-      → AtEntries s g (λ p z q. lowersOf s g d p z q * 2 ^ 36 ≤ f (rulesOf b) s (2 ^ 20) (lowersOf s g d) p z q))
+      → AtEntries s g (λ p z q. lowersOf s g d p z q * sumUnit ≤ f (rulesOf b) s chanceUnit (lowersOf s g d) p z q))
       × (hasMeans h ≡ true → Bounds.Means (rulesOf b) s g (uppersOf s g d) (meansOf s g h d)))))))
   unfolding numberTests deadTests upperTests belowTests lowerTests meanTests
   says-numbers =
@@ -129,15 +129,15 @@ module _ (b : List ℕ) (s g : ℕ) (h : Shape) (d : List ℕ) where
 -- ---- the live marks of a model by its runs
 
 module _ {m : List Rule} {s g : ℕ} (model : IsModel s g m) {p z q : ℕ} (hp : p < s) (hz : z < g) (hq : q < s) where
-  pub live-exactly : (alive m s g p z q ≡ 1) ↔ Live m p z q
+  pub live-exactly : (isLive (alive m s g p z q) ≡ true) ↔ Live m p z q
   live-exactly = live-by-rounds m s g model p z q hp hz hq
 
-  pub dead-exactly : (alive m s g p z q ≡ 0) ↔ (Live m p z q → ⊥)
-  dead-exactly = (λ e l. let h = live-exactly .1 l in omega arith, λ n. go n (alive-or-dead m s g p z q))
+  pub dead-exactly : (isLive (alive m s g p z q) ≡ false) ↔ (Live m p z q → ⊥)
+  dead-exactly = (λ e l. true≢false (sym (live-exactly .1 l) ∙ e), λ n. go n (isLive (alive m s g p z q)) refl)
     where
-      go : (Live m p z q → ⊥) → (alive m s g p z q ≡ 1) ⊎ (alive m s g p z q ≡ 0) → alive m s g p z q ≡ 0
-      go n (inl e) = absurd (n (live-exactly .0 e))
-      go n (inr e) = e
+      go : (Live m p z q → ⊥) → (t : Bool) → isLive (alive m s g p z q) ≡ t → t ≡ false
+      go n true e = absurd (n (live-exactly .0 e))
+      go n false e = refl
 
 -- ---- the blocks of a delivery
 
@@ -297,29 +297,29 @@ difference-not-above a b h n = go (ltb a b)
     go true q = pos-ne-negsuc _ _ (sym q)
     go false q = let z : a - b ≡ suc n = cc in omega arith
 
-short-upper : (lowers : Bool) (a u y i : ℕ) → Short (upperTest lowers a u y i ∷ [])
+short-upper : (lowers t : Bool) (u y i : ℕ) → Short (upperTest lowers t u y i ∷ [])
 unfolding upperTest
-short-upper lowers a u y i = short-cons (λ e. difference-not-above (u * 2 ^ 36) y (go (ltb (u * 2 ^ 36) y) refl e)) short-none
+short-upper lowers live u y i = short-cons (λ e. difference-not-above (u * sumUnit) y (go (ltb (u * sumUnit) y) refl e)) short-none
   where
-    go : (t : Bool) → ltb (u * 2 ^ 36) y ≡ t → (t || (lowers && (eqb a 1 && leb (u * 2 ^ 36) y))) ≡ true → u * 2 ^ 36 ≤ y
-    go true q e = omega (arith, ltb-true (u * 2 ^ 36) y q)
-    go false q e = leb-true (u * 2 ^ 36) y (and-eq-true-iff (eqb a 1) _ .0 (and-eq-true-iff lowers _ .0 e .1) .1)
+    go : (t : Bool) → ltb (u * sumUnit) y ≡ t → (t || (lowers && (live && leb (u * sumUnit) y))) ≡ true → u * sumUnit ≤ y
+    go true q e = omega (arith, ltb-true (u * sumUnit) y q)
+    go false q e = leb-true (u * sumUnit) y (and-eq-true-iff live _ .0 (and-eq-true-iff lowers _ .0 e .1) .1)
 
 short-lower : (l y i : ℕ) → Short (lowerTest l y i ∷ [])
 unfolding lowerTest
-short-lower l y i = short-cons (λ e. difference-not-above y (l * 2 ^ 36) (omega (arith, ltb-true y (l * 2 ^ 36) e))) short-none
+short-lower l y i = short-cons (λ e. difference-not-above y (l * sumUnit) (omega (arith, ltb-true y (l * sumUnit) e))) short-none
 
 short-mean : (r y i : ℕ) → Short (meanTest r y i ∷ [])
 unfolding meanTest
-short-mean r y i = short-cons (λ e. difference-not-above (r * 2 ^ 36) y (omega (arith, ltb-true (r * 2 ^ 36) y e))) short-none
+short-mean r y i = short-cons (λ e. difference-not-above (r * sumUnit) y (omega (arith, ltb-true (r * sumUnit) y e))) short-none
 
 short-record : (d : List ℕ) (i : ℕ) (k : Block) (p z q : ℕ) → Short (recordTests d i k p z q)
 unfolding recordTests
 short-record d i k p z q = short-plain (short-plain short-none)
 
-short-dead : (a v i : ℕ) → Short (deadTest a v i ∷ [])
+short-dead : (t : Bool) (v i : ℕ) → Short (deadTest t v i ∷ [])
 unfolding deadTest
-short-dead a v i = short-plain short-none
+short-dead t v i = short-plain short-none
 
 short-below : (l u i : ℕ) → Short (belowTest l u i ∷ [])
 unfolding belowTest
@@ -341,11 +341,11 @@ short-shaped b s g (Of h) d =
     (short-only (hasMeans h) (short-rows s g (λ p z. short-mean _ _ _))))))))
 
 short-model : (b : List ℕ) → Short (modelTests b)
-unfolding modelTests model.recordTests rowTests
+unfolding modelTests model.recordTests rowTests rowsTests
 short-model b =
     short-plain
     (short-append (short-each (recordsOf b) (λ i. short-plain (short-plain (short-plain (short-plain short-none)))))
-    (short-each (statesOf b * symbolsOf b) (λ k. short-plain short-none)))
+    (short-each (rowsIn (statesOf b) (symbolsOf b)) (λ k. short-plain short-none)))
 
 -- The shortfall of a refusal is never above zero.
 pub shortfall-not-positive : (b d : List ℕ) (r : Reason) (i : ℕ) (k : ℤ) → verdict b d ≡ Refused r i k → (n : ℕ) → k ≡ pos (suc n) → ⊥

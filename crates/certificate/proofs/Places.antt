@@ -1,6 +1,6 @@
 -- The place of a refused delivery: where the reason names a record of the model, 11 to 14, or of the delivery, 21 to 27, it is a whole
--- record of that file. It is below 65,536 in any case: that of a refused model is, and beside a model that passes a delivery has at most
--- 2,176 records.
+-- record of that file. It is below 65,536 in any case: that of a refused model is, and beside a model that passes a delivery has no more
+-- records than the limit.
 use Prim.Native.Nat.{ℕ, _+_, _/_, _≤_, _<_}
 use native.Mathlib.Omega.{arith}
 use mathlib.Core.Bool.{Bool, true, false}
@@ -8,14 +8,16 @@ use mathlib.Core.List.{List, [], _∷_, _++_}
 use mathlib.Core.Path.{_≡_, refl}
 use lib.IntN.{ℤ}
 use lib.ListN.{length}
+use Rattle.delivery.specs.Format.{recordBytes, mostRecords}
 use Rattle.outcome.specs.declared.Reason.{Reason}
 use Rattle.outcome.specs.declared.Outcome.the-variants.{Refused}
 use Rattle.outcome.specs.Reasons.{numberOf}
 use Rattle.outcome.specs.Tests.{Test}
 use Rattle.outcome.proofs.Tests.{Refusals, refusals-none, refusals-cons, refusals-append, refusals-each, refusals-weaken}
-use Rattle.ppda.proofs.Places.{row-below, entry-below, rows-most, entries-most}
+use Rattle.ppda.proofs.Places.{row-below, entry-below}
 use Rattle.model.specs.Records.{recordsOf, statesOf, symbolsOf}
-use Rattle.model.proofs.Records.{states-most, symbols-most}
+use Rattle.model.specs.Sizes.{Fits}
+use Rattle.model.proofs.Records.{sizes-fit}
 use Rattle.model.specs.Verdict.{modelVerdict, modelTests}
 use Rattle.model.proofs.Accepted.{model-accepted}
 use Rattle.model.proofs.Places.{model-places}
@@ -37,7 +39,7 @@ use Rattle.certificate.specs.Verdict.{numberTests, shapedTests, delivery
 -- The reason is one of 21 to 27, by its number, and the place is a whole record of the file d.
 record AtRecord (d : List ℕ) (r : Reason) (i : ℕ) : Type 0 where
   number : 21 ≤ numberOf r
-  whole : i < length d / 8
+  whole : i < length d / recordBytes
 
 both : {d : List ℕ} {xs ys : List Test} → Refusals (AtRecord d) xs → Refusals (AtRecord d) ys → Refusals (AtRecord d) (xs ++ ys)
 both f g = refusals-append f (λ e. g)
@@ -46,16 +48,16 @@ only : {d : List ℕ} {ts : List Test} (t : Bool) → (t ≡ true → Refusals (
 only true f = f refl
 only false f = refusals-none
 
-one : {d : List ℕ} {t : Test} → 21 ≤ numberOf (t .reason) → t .place < length d / 8 → Refusals (AtRecord d) (t ∷ [])
+one : {d : List ℕ} {t : Test} → 21 ≤ numberOf (t .reason) → t .place < length d / recordBytes → Refusals (AtRecord d) (t ∷ [])
 one n l = refusals-cons (record { number = n; whole = l }) (λ e. refusals-none)
 
-at-record : (d : List ℕ) {i : ℕ} (k : Block) (p z q : ℕ) → i < length d / 8 → Refusals (AtRecord d) (recordTests d i k p z q)
+at-record : (d : List ℕ) {i : ℕ} (k : Block) (p z q : ℕ) → i < length d / recordBytes → Refusals (AtRecord d) (recordTests d i k p z q)
 unfolding recordTests
 at-record d k p z q l = refusals-cons (record { number = omega arith; whole = l }) (λ e. one (omega arith) l)
 
 module _ (s g : ℕ) (d : List ℕ) (h : Shape) (of : shapeOf s g d ≡ Of h) where
   -- Tests at every record of a block.
-  at-uppers : {ts : ℕ → ℕ → ℕ → List Test} → ((p z q : ℕ) → entryAt s g p z q < length d / 8 → Refusals (AtRecord d) (ts p z q))
+  at-uppers : {ts : ℕ → ℕ → ℕ → List Test} → ((p z q : ℕ) → entryAt s g p z q < length d / recordBytes → Refusals (AtRecord d) (ts p z q))
       → Refusals (AtRecord d) (eachEntry s g ts)
   unfolding eachEntry
   at-uppers f =
@@ -63,14 +65,14 @@ module _ (s g : ℕ) (d : List ℕ) (h : Shape) (of : shapeOf s g d ≡ Of h) wh
       f p z q (omega (arith, entry-below s g p z q hp hz hq, uppers-fit s g d h of)))))
 
   at-lowers : {ts : ℕ → ℕ → ℕ → List Test}
-      → ((p z q : ℕ) → entriesIn s g + entryAt s g p z q < length d / 8 → Refusals (AtRecord d) (ts p z q))
+      → ((p z q : ℕ) → entriesIn s g + entryAt s g p z q < length d / recordBytes → Refusals (AtRecord d) (ts p z q))
       → Refusals (AtRecord d) (onlyIf (hasLowers h) (eachEntry s g ts))
   unfolding eachEntry
   at-lowers f =
       only (hasLowers h) (λ e. refusals-each s (λ p hp. refusals-each g (λ z hz. refusals-each s (λ q hq.
       f p z q (omega (arith, entry-below s g p z q hp hz hq, lowers-fit s g d h of e))))))
 
-  at-means : {ts : ℕ → ℕ → List Test} → ((p z : ℕ) → meansFrom s g h + rowAt g p z < length d / 8 → Refusals (AtRecord d) (ts p z))
+  at-means : {ts : ℕ → ℕ → List Test} → ((p z : ℕ) → meansFrom s g h + rowAt g p z < length d / recordBytes → Refusals (AtRecord d) (ts p z))
       → Refusals (AtRecord d) (onlyIf (hasMeans h) (eachRow s g ts))
   unfolding eachRow
   at-means f =
@@ -100,26 +102,26 @@ module _ (s g : ℕ) (d : List ℕ) (h : Shape) (of : shapeOf s g d ≡ Of h) wh
 record Placed (b d : List ℕ) (r : Reason) (i : ℕ) : Type 0 where
   small : i < 65536
   rule : 11 ≤ numberOf r → numberOf r ≤ 14 → i < recordsOf b
-  bound : 21 ≤ numberOf r → numberOf r ≤ 27 → i < length d / 8
+  bound : 21 ≤ numberOf r → numberOf r ≤ 27 → i < length d / recordBytes
 
-few-records : (s g : ℕ) (h : Shape) → s < 9 → g < 17 → recordsIn s g h ≤ 2176
+few-records : {s g : ℕ} (h : Shape) → Fits s g → recordsIn s g h ≤ mostRecords
 unfolding recordsIn meansFrom
-few-records s g U hs hg = omega (arith, entries-most s g hs hg)
-few-records s g UL hs hg = omega (arith, entries-most s g hs hg)
-few-records s g UR hs hg = omega (arith, entries-most s g hs hg, rows-most s g hs hg)
-few-records s g ULR hs hg = omega (arith, entries-most s g hs hg, rows-most s g hs hg)
+few-records U fits = omega (arith, fits .few-entries)
+few-records UL fits = omega (arith, fits .few-entries)
+few-records UR fits = omega (arith, fits .few-entries, fits .few-rows)
+few-records ULR fits = omega (arith, fits .few-entries, fits .few-rows)
 
--- A delivery for a model with few states and symbols.
-shaped-places : (b d : List ℕ) (s g : ℕ) → s < 9 → g < 17 → (t : Shaped) → shapeOf s g d ≡ t → Refusals (Placed b d) (shapedTests b s g t d)
+-- A delivery for a model whose sizes fit.
+shaped-places : (b d : List ℕ) (s g : ℕ) → Fits s g → (t : Shaped) → shapeOf s g d ≡ t → Refusals (Placed b d) (shapedTests b s g t d)
 unfolding shapedTests
-shaped-places b d s g hs hg Unknown of =
+shaped-places b d s g fits Unknown of =
     refusals-cons
     (record { small = omega arith; rule = λ from to. absurd (omega arith); bound = λ from to. absurd (omega arith) })
     (λ e. refusals-none)
-shaped-places b d s g hs hg (Of h) of =
+shaped-places b d s g fits (Of h) of =
     refusals-weaken
     (λ r i x. record {
-      small = omega (arith, shape-long s g d h of, few-records s g h hs hg);
+      small = omega (arith, shape-long s g d h of, few-records h fits);
       rule = λ from to. absurd (omega arith);
       bound = λ from to. x .whole;
     })
@@ -132,7 +134,7 @@ verdict-places b d =
     (refusals-weaken (λ r i x. record { small = x .small; rule = x .whole; bound = λ from to. absurd (omega arith) }) (model-places b))
     (λ e.
     let right = model-accepted b .0 e .records .right in
-    shaped-places b d (statesOf b) (symbolsOf b) (omega (arith, states-most b right)) (omega (arith, symbols-most b right)) _ refl)
+    shaped-places b d (statesOf b) (symbolsOf b) (sizes-fit b right) _ refl)
 
 pub place-fits : (b d : List ℕ) (r : Reason) (i : ℕ) (k : ℤ) → verdict b d ≡ Refused r i k → i < 65536
 unfolding verdict
@@ -145,6 +147,6 @@ unfolding verdict
 rule-record b d r i k e = verdict-places b d .refused r i k e .rule
 
 pub bound-record : (b d : List ℕ) (r : Reason) (i : ℕ) (k : ℤ) → verdict b d ≡ Refused r i k → 21 ≤ numberOf r → numberOf r ≤ 27
-    → i < length d / 8
+    → i < length d / recordBytes
 unfolding verdict
 bound-record b d r i k e = verdict-places b d .refused r i k e .bound

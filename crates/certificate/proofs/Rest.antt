@@ -7,6 +7,8 @@ use mathlib.Core.List.{List, _++_}
 use mathlib.Core.Path.{_≡_, refl, ap, _∙_}
 use lib.ListN.{length, take, drop, length-drop}
 use lib.Seq.{drop-drop}
+use Rattle.ppda.specs.Units.{mostChance, mostMean}
+use Rattle.delivery.specs.Format.{recordBytes}
 use Rattle.outcome.specs.declared.Outcome.the-variants.{Accepted}
 use Rattle.outcome.specs.Tests.{first}
 use Rattle.ppda.specs.Rules.{IsModel}
@@ -32,25 +34,25 @@ use Rattle.certificate.proofs.Blocks.{itself, dead-same, below-same, up
 
 -- ---- the numbers of the rest
 
-pub rest-lowers : (s g : ℕ) (d : List ℕ) → Same s g (uppersOf s g (drop (8 * entriesIn s g) d)) (lowersOf s g d)
+pub rest-lowers : (s g : ℕ) (d : List ℕ) → Same s g (uppersOf s g (drop (recordBytes * entriesIn s g) d)) (lowersOf s g d)
 unfolding uppersOf lowersOf
 rest-lowers s g d p z q hp hz hq = rest-value d (entriesIn s g) (entryAt s g p z q)
 
 -- The block of mean steps stands where the shape's mean steps start.
-means-block : (s g : ℕ) (h : Shape) (d : List ℕ) → meansBlock s g h (drop (8 * entriesIn s g) d) ≡ drop (8 * meansFrom s g h) d
+means-block : (s g : ℕ) (h : Shape) (d : List ℕ) → meansBlock s g h (drop (recordBytes * entriesIn s g) d) ≡ drop (recordBytes * meansFrom s g h) d
 unfolding meansBlock meansFrom
 means-block s g h d = go (hasLowers h)
   where
-    twice : 8 * entriesIn s g + 8 * entriesIn s g ≡ 8 * (entriesIn s g + entriesIn s g)
+    twice : recordBytes * entriesIn s g + recordBytes * entriesIn s g ≡ recordBytes * (entriesIn s g + entriesIn s g)
     twice = omega arith
 
-    go : (t : Bool) → cond t (drop (8 * entriesIn s g) (drop (8 * entriesIn s g) d)) (drop (8 * entriesIn s g) d)
-        ≡ drop (8 * cond t (entriesIn s g + entriesIn s g) (entriesIn s g)) d
-    go true = drop-drop (8 * entriesIn s g) (8 * entriesIn s g) d ∙ ap (λ n. drop n d) twice
+    go : (t : Bool) → cond t (drop (recordBytes * entriesIn s g) (drop (recordBytes * entriesIn s g) d)) (drop (recordBytes * entriesIn s g) d)
+        ≡ drop (recordBytes * cond t (entriesIn s g + entriesIn s g) (entriesIn s g)) d
+    go true = drop-drop (recordBytes * entriesIn s g) (recordBytes * entriesIn s g) d ∙ ap (λ n. drop n d) twice
     go false = refl
 
 pub rest-means : (s g : ℕ) (h : Shape) (d : List ℕ)
-    → SameRows s g (rowsOfBlock g (meansBlock s g h (drop (8 * entriesIn s g) d))) (meansOf s g h d)
+    → SameRows s g (rowsOfBlock g (meansBlock s g h (drop (recordBytes * entriesIn s g) d))) (meansOf s g h d)
 unfolding meansOf
 rest-means s g h d p z hp hz =
     ap (λ l. valueAt l (rowAt g p z)) (means-block s g h d) ∙ rest-value d (meansFrom s g h) (rowAt g p z)
@@ -68,37 +70,37 @@ at-row-numbers : {s g : ℕ} (P : ℕ → Type 0) → AtRows s g (λ p z. P (row
 at-row-numbers {s} {g} P at e h = let (p, z, hp, hz, here) = row-split s g e h in rw here (at p z hp hz)
 
 module _ (s g : ℕ) (d : List ℕ) {h : Shape} (shape : shapeOf s g d ≡ Of h) where
-  pub uppers-within : AtEntries s g (λ p z q. uppersOf s g d p z q ≤ 2097152) → Within (take (8 * entriesIn s g) d) (entriesIn s g) 2097152
+  pub uppers-within : AtEntries s g (λ p z q. uppersOf s g d p z q ≤ mostChance) → Within (take (recordBytes * entriesIn s g) d) (entriesIn s g) mostChance
   unfolding uppersOf
-  uppers-within most = part-within d (entriesIn s g) 2097152 (uppers-fit s g d h shape) (at-numbers (λ e. valueAt d e ≤ 2097152) most)
+  uppers-within most = part-within d (entriesIn s g) mostChance (uppers-fit s g d h shape) (at-numbers (λ e. valueAt d e ≤ mostChance) most)
 
   -- The file ends with its mean steps.
-  means-end : hasMeans h ≡ true → length (drop (8 * meansFrom s g h) d) ≡ 8 * rowsIn s g
+  means-end : hasMeans h ≡ true → length (drop (recordBytes * meansFrom s g h) d) ≡ recordBytes * rowsIn s g
   unfolding recordsIn
-  means-end has = rw (length-drop (8 * meansFrom s g h) d) (omega (arith, rw has at (shape-long s g d h shape)))
+  means-end has = rw (length-drop (recordBytes * meansFrom s g h) d) (omega (arith, rw has at (shape-long s g d h shape)))
 
   module _ (layout : first (layoutTests s g h d) ≡ Accepted) where
-    pub uppers-read : Within (take (8 * entriesIn s g) d) (entriesIn s g) 2097152
+    pub uppers-read : Within (take (recordBytes * entriesIn s g) d) (entriesIn s g) mostChance
     unfolding uppersOf
     uppers-read = uppers-within (λ p z q hp hz hq. layout-right s g h d layout .0 p z q hp hz hq .most)
 
     lowers-read : hasLowers h ≡ true
-        → Within (take (8 * entriesIn s g) (drop (8 * entriesIn s g) d)) (entriesIn s g) 2097152
+        → Within (take (recordBytes * entriesIn s g) (drop (recordBytes * entriesIn s g) d)) (entriesIn s g) mostChance
     lowers-read has =
-        part-within (drop (8 * entriesIn s g) d) (entriesIn s g) 2097152
-        (rw (length-drop (8 * entriesIn s g) d) (omega (arith, lowers-fit s g d h shape has)))
+        part-within (drop (recordBytes * entriesIn s g) d) (entriesIn s g) mostChance
+        (rw (length-drop (recordBytes * entriesIn s g) d) (omega (arith, lowers-fit s g d h shape has)))
         (λ e l. rw (rest-value d (entriesIn s g) e)
-        (at-numbers (λ i. valueAt d (entriesIn s g + i) ≤ 2097152)
+        (at-numbers (λ i. valueAt d (entriesIn s g + i) ≤ mostChance)
         (λ p z q hp hz hq. layout-right s g h d layout .1 .0 has p z q hp hz hq .most) e l))
 
-    means-read : hasMeans h ≡ true → Within (meansBlock s g h (drop (8 * entriesIn s g) d)) (rowsIn s g) 4194304
+    means-read : hasMeans h ≡ true → Within (meansBlock s g h (drop (recordBytes * entriesIn s g) d)) (rowsIn s g) mostMean
     means-read has =
-        rw (means-block s g h d) (ends-within (drop (8 * meansFrom s g h) d) (rowsIn s g) 4194304 (means-end has)
+        rw (means-block s g h d) (ends-within (drop (recordBytes * meansFrom s g h) d) (rowsIn s g) mostMean (means-end has)
         (λ e l. rw (rest-value d (meansFrom s g h) e)
-        (at-row-numbers (λ i. valueAt d (meansFrom s g h + i) ≤ 4194304)
+        (at-row-numbers (λ i. valueAt d (meansFrom s g h + i) ≤ mostMean)
         (λ p z hp hz. layout-right s g h d layout .1 .1 has p z hp hz .most) e l)))
 
-    pub rest-read : RestRead s g h (drop (8 * entriesIn s g) d)
+    pub rest-read : RestRead s g h (drop (recordBytes * entriesIn s g) d)
     rest-read = record { lowers = lowers-read; means = means-read }
 
 -- ---- the tests by the rest
@@ -117,7 +119,7 @@ module _ (b : List ℕ) {s g : ℕ} (model : IsModel s g (rulesOf b)) (h : Shape
 
   pub numbers-by-rest : (d : List ℕ) → numberTests b s g h d
       ≡ deadTests s g (alive (rulesOf b) s g) (uppersOf s g d) 0
-      ++ restTests b s g h (alive (rulesOf b) s g) (uppersOf s g d) (drop (8 * entriesIn s g) d)
+      ++ restTests b s g h (alive (rulesOf b) s g) (uppersOf s g d) (drop (recordBytes * entriesIn s g) d)
   unfolding numberTests restTests restMeans
   numbers-by-rest d =
       rw (

@@ -8,6 +8,8 @@ use mathlib.Core.Path.{_≡_, refl, sym, ap, ap₂, _∙_}
 use lib.IntN.{ℤ, pos}
 use lib.ListN.{length, take, drop, length-take, length-drop}
 use lib.Seq.{take-all}
+use Rattle.ppda.specs.Units.{mostChance, mostMean}
+use Rattle.delivery.specs.Format.{recordBytes}
 use Rattle.outcome.specs.declared.Reason.{Reason}
 use Rattle.outcome.specs.declared.Reason.the-variants.{NoShape}
 use Rattle.outcome.specs.declared.Outcome.{Outcome}
@@ -15,7 +17,9 @@ use Rattle.outcome.specs.declared.Outcome.the-variants.{Accepted, Refused}
 use Rattle.outcome.specs.Tests.{Test, first, each}
 use Rattle.outcome.proofs.Tests.{first-empty, first-refused, first-rest}
 use Rattle.ppda.specs.Live.{alive}
+use Rattle.model.specs.declared.sizes.Sizes.{Sizes}
 use Rattle.model.specs.Records.{statesOf, symbolsOf}
+use Rattle.model.specs.Sizes.{sizesOf}
 use Rattle.model.specs.Rules.{rulesOf}
 use Rattle.model.specs.Verdict.{modelTests, modelVerdict}
 use Rattle.delivery.specs.declared.shape.Shape.{Shape}
@@ -28,7 +32,6 @@ use Rattle.delivery.specs.Layout.{eachEntry, eachRow, onlyIf, layoutTests}
 use Rattle.delivery.specs.Walks.{Within}
 use Rattle.live.specs.Exits.{ExitsOf, exitMarks}
 use Rattle.model.specs.Accepted.{Sized}
-use Rattle.rows.proofs.Ranges.{few-states, few-symbols, some-symbols}
 use Rattle.model.proofs.Accepted.{sized-model}
 use Rattle.inequalities.specs.Inequalities.{deadTests, upperTests, belowTests, lowerTests}
 use Rattle.inequalities.specs.declared.sides.Side.the-variants.{Upper, StrictUpper, Lower}
@@ -37,7 +40,7 @@ use Rattle.inequalities.specs.Shares.{Strict, leastShare}
 use Rattle.certificate.specs.declared.answer.Margin.the-variants.{Shown, Absent}
 use Rattle.certificate.specs.Verdict.{numberTests, shapedTests, deliveryTests, verdict}
 use Rattle.certificate.specs.Accepted.{UppersRight}
-use Rattle.certificate.specs.Rest.{RestRead, meansBlock, restMeans, restTests}
+use Rattle.certificate.specs.Rest.{RestRead, meansBlock, restMeans, restTests, deadPart, upperPart, lowerPart}
 use Rattle.certificate.specs.Margin.{marginOf, shownMargin}
 use Rattle.certificate.specs.Shown.{shapeIn}
 use Rattle.certificate.proofs.Accepted.{delivery-accepted}
@@ -47,82 +50,59 @@ use Rattle.certificate.proofs.Shares.{least-share, strict-of}
 
 -- ---- an accepted model and its sizes
 
-module _ {b : List ℕ} {s g : ℕ} (sized : Sized b s g) where
-  pub few : (s < 9) × (g < 17)
-  few = (few-states sized, few-symbols sized)
-
-  pub some-and-few : (0 < s) × (s < 9) × (0 < g) × (g < 17)
-  unfolding statesOf
-  some-and-few = (omega (arith, sized .states), few-states sized, some-symbols sized, few-symbols sized)
-
 -- The model of an accepted delivery is accepted.
-pub sized-by-verdict : {b : List ℕ} {s g : ℕ} (d : List ℕ) → verdict b d ≡ Accepted → s ≡ statesOf b → g ≡ symbolsOf b → Sized b s g
-sized-by-verdict {b} d accepted states symbols =
-    record { file = delivery-accepted b d .0 accepted .model; states = states; symbols = symbols }
+pub sized-by-verdict : {b : List ℕ} {n : Sizes} (d : List ℕ) → verdict b d ≡ Accepted → n ≡ sizesOf b → Sized b (n .states) (n .symbols)
+sized-by-verdict {b} d accepted same =
+    record { file = delivery-accepted b d .0 accepted .model; states = ap (λ (n : Sizes). n .states) same; symbols = ap (λ (n : Sizes). n .symbols) same }
 
 -- ---- numbers in range, by how many records n the code takes
 
 -- The part of a file from record n on is all that follows the first n records.
-pub part-from : (d : List ℕ) {n m : ℕ} → n ≡ m → take (length d - 8 * n) (drop (8 * n) d) ≡ drop (8 * m) d
-part-from d {n} e = take-all (length d - 8 * n) (drop (8 * n) d) (omega (arith, length-drop (8 * n) d)) ∙ ap (λ k. drop (8 * k) d) e
+pub part-from : (d : List ℕ) {n m : ℕ} → n ≡ m → take (length d - recordBytes * n) (drop (recordBytes * n) d) ≡ drop (recordBytes * m) d
+part-from d {n} e = take-all (length d - recordBytes * n) (drop (recordBytes * n) d) (omega (arith, length-drop (recordBytes * n) d)) ∙ ap (λ k. drop (recordBytes * k) d) e
 
 -- A right layout has its uppers and its rest in range.
 module _ (s g : ℕ) (d : List ℕ) {h : Shape} (shape : shapeOf s g d ≡ Of h) (layout : first (layoutTests s g h d) ≡ Accepted)
     {n : ℕ} (e : n ≡ entriesIn s g) where
-  pub uppers-in-range : Within (take (8 * n) d) (entriesIn s g) 2097152
+  pub uppers-in-range : Within (take (recordBytes * n) d) (entriesIn s g) mostChance
   uppers-in-range = rw e (uppers-read s g d shape layout)
 
-  pub rest-in-range : RestRead s g h (take (length d - 8 * n) (drop (8 * n) d))
+  pub rest-in-range : RestRead s g h (take (length d - recordBytes * n) (drop (recordBytes * n) d))
   rest-in-range = rw (part-from d e) (rest-read s g d shape layout)
 
 -- An accepted delivery has its uppers in range.
 pub accepted-in-range : {b : List ℕ} {s g n : ℕ} (d : List ℕ) {h : Shape} → Sized b s g → shapeOf s g d ≡ Of h → verdict b d ≡ Accepted
-    → n ≡ entriesIn s g → Within (take (8 * n) d) (entriesIn s g) 2097152
+    → n ≡ entriesIn s g → Within (take (recordBytes * n) d) (entriesIn s g) mostChance
 unfolding uppersOf
 accepted-in-range {b} {s} {g} d sized shape accepted e =
     let uppers : UppersRight b s g d = rw (sized .states, sized .symbols) (delivery-accepted b d .0 accepted .delivery .uppers) in
     rw e (uppers-within s g d shape (λ p z q hp hz hq. uppers .due p z q hp hz hq .most))
 
 -- A rest with its lowers in range has them, and one in range has its block of mean steps in range.
-module _ (s g : ℕ) (rest : List ℕ) (read : Within (take (8 * entriesIn s g) rest) (entriesIn s g) 2097152) {n : ℕ} (e : n ≡ entriesIn s g)
+module _ (s g : ℕ) (rest : List ℕ) (read : Within (take (recordBytes * entriesIn s g) rest) (entriesIn s g) mostChance) {n : ℕ} (e : n ≡ entriesIn s g)
   where
-    pub lowers-whole : 8 * n ≤ length rest
-    lowers-whole = omega (arith, read .whole, length-take (8 * entriesIn s g) rest)
+    pub lowers-whole : recordBytes * n ≤ length rest
+    lowers-whole = omega (arith, read .whole, length-take (recordBytes * entriesIn s g) rest)
 
-    pub lowers-in-range : Within (take (8 * n) rest) (entriesIn s g) 2097152
+    pub lowers-in-range : Within (take (recordBytes * n) rest) (entriesIn s g) mostChance
     lowers-in-range = rw e read
 
 module _ {s g : ℕ} {h : Shape} {rest : List ℕ} (read : RestRead s g h rest) (stand : hasMeans h ≡ true) where
   pub block-after-lowers : {n : ℕ} → n ≡ entriesIn s g → hasLowers h ≡ true
-      → Within (take (length rest - 8 * n) (drop (8 * n) rest)) (rowsIn s g) 4194304
+      → Within (take (length rest - recordBytes * n) (drop (recordBytes * n) rest)) (rowsIn s g) mostMean
   unfolding meansBlock
   block-after-lowers e lowers = rw (part-from rest e) (rw lowers at (read .means stand))
 
-  pub block-alone : hasLowers h ≡ false → Within rest (rowsIn s g) 4194304
+  pub block-alone : hasLowers h ≡ false → Within rest (rowsIn s g) mostMean
   unfolding meansBlock
   block-alone lowers = rw lowers at (read .means stand)
-
--- ---- the parts in which the code takes the tests: t is whether lowers stand, a lists the rows' live marks and u starts with the uppers
-
--- 23 in the lowers, which the rest of the file starts with.
-abbrev pub deadPart : ℕ → ℕ → Bool → List ℕ → List ℕ → List Test
-deadPart s g t a rest = onlyIf t (deadTests s g (exitMarks g a) (uppersOf s g rest) (entriesIn s g))
-
--- 24.
-abbrev pub upperPart : List ℕ → ℕ → ℕ → Bool → List ℕ → List ℕ → List Test
-upperPart b s g t a u = upperTests (rulesOf b) s g t (exitMarks g a) (uppersOf s g u)
-
--- 25 and 26.
-abbrev pub lowerPart : List ℕ → ℕ → ℕ → Bool → List ℕ → List ℕ → List Test
-lowerPart b s g t u rest =
-    onlyIf t (belowTests s g (uppersOf s g rest) (uppersOf s g u)) ++ onlyIf t (lowerTests (rulesOf b) s g (uppersOf s g rest))
 
 -- ---- the outcome of each part
 
 -- The lowers stand: the code takes the first V records of the rest.
 module _ (s g : ℕ) (rest : List ℕ) {n : ℕ} (e : n ≡ entriesIn s g) (t : Bool) (stand : t ≡ true) where
   abbrev block : List ℕ
-  block = take (8 * n) rest
+  block = take (recordBytes * n) rest
 
   pub dead-found : (a : List ℕ) (o : Outcome) → o ≡ first (eachEntry s g (deadAt s g a block n)) → o ≡ first (deadPart s g t a rest)
   dead-found a o found =
@@ -133,7 +113,7 @@ module _ (s g : ℕ) (rest : List ℕ) {n : ℕ} (e : n ≡ entriesIn s g) (t : 
   below-tests u = rw e (below-by-number s g _ u ∙ below-same (part-same s g rest refl) (itself (uppersOf s g u)))
 
   lower-tests : {b : List ℕ} → Sized b s g → (a : List ℕ)
-      → eachEntry s g (sideAt Lower b s g a block n) ≡ lowerTests (rulesOf b) s g (uppersOf s g rest)
+      → eachEntry s g (sideAt Lower b s g a block) ≡ lowerTests (rulesOf b) s g (uppersOf s g rest)
   lower-tests {b} sized a = rw e (lowers-by-side b s g a _ ∙ lower-same (sized-model sized) (part-same s g rest refl))
 
   pub below-refused : (b u : List ℕ) (o : Outcome) {r : Reason} {i : ℕ} {k : ℤ} → o ≡ first (each n (belowAt block u n))
@@ -141,12 +121,12 @@ module _ (s g : ℕ) (rest : List ℕ) {n : ℕ} (e : n ≡ entriesIn s g) (t : 
   below-refused b u o found refused = rw stand (first-refused _ _ o (found ∙ ap first (below-tests u)) refused)
 
   pub lower-found : {b : List ℕ} → Sized b s g → (a u : List ℕ) (o x : Outcome) → x ≡ first (each n (belowAt block u n)) → x ≡ Accepted
-      → o ≡ first (eachEntry s g (sideAt Lower b s g a block n)) → o ≡ first (lowerPart b s g t u rest)
+      → o ≡ first (eachEntry s g (sideAt Lower b s g a block)) → o ≡ first (lowerPart b s g t u rest)
   lower-found sized a u o x below passed found =
       rw stand (first-rest _ _ o x (below ∙ ap first (below-tests u)) passed (found ∙ ap first (lower-tests sized a)))
 
 pub upper-found : (b : List ℕ) (s g : ℕ) (a u : List ℕ) {t k : Bool} (o : Outcome) → t ≡ k
-    → o ≡ first (eachEntry s g (sideAt (cond k StrictUpper Upper) b s g a u 0)) → o ≡ first (upperPart b s g t a u)
+    → o ≡ first (eachEntry s g (sideAt (cond k StrictUpper Upper) b s g a u)) → o ≡ first (upperPart b s g t a u)
 upper-found b s g a u {k = k} o is found = rw is (found ∙ ap first (uppers-by-side b s g k a u))
 
 -- 27 by the rest of the file.
@@ -157,7 +137,7 @@ module _ (b : List ℕ) (s g : ℕ) (h : Shape) (u rest : List ℕ) where
 
   module _ {n : ℕ} (o : Outcome) (stand : hasMeans h ≡ true) (e : n ≡ entriesIn s g) where
     pub means-after-lowers : hasLowers h ≡ true
-        → o ≡ first (eachRow s g (meanAt b s g u (take (length rest - 8 * n) (drop (8 * n) rest)) (n + n)))
+        → o ≡ first (eachRow s g (meanAt b s g u (take (length rest - recordBytes * n) (drop (recordBytes * n) rest)) (n + n)))
         → o ≡ first (restMeans b s g h (uppersOf s g u) rest)
     unfolding restMeans meansBlock meansFrom
     means-after-lowers lowers found = rw (stand, lowers) ((rw (part-from rest e, e) at found) ∙ ap first (means-by-row b s g u _ _))
@@ -200,11 +180,11 @@ module _ (b : List ℕ) (s g : ℕ) (h : Shape) (a u rest : List ℕ) {t : Bool}
 module _ {b : List ℕ} {s g : ℕ} (sized : Sized b s g) (h : Shape) (d : List ℕ) {a : List ℕ} {n : ℕ} (e : n ≡ entriesIn s g)
     (marks : ExitsOf s g (alive (rulesOf b) s g) a) where
   abbrev uppers : List ℕ
-  uppers = take (8 * n) d
+  uppers = take (recordBytes * n) d
 
   number-parts : numberTests b s g h d
       ≡ eachEntry s g (deadAt s g a uppers 0)
-      ++ restTests b s g h (exitMarks g a) (uppersOf s g uppers) (take (length d - 8 * n) (drop (8 * n) d))
+      ++ restTests b s g h (exitMarks g a) (uppersOf s g uppers) (take (length d - recordBytes * n) (drop (recordBytes * n) d))
   number-parts =
       rw (part-from d e)
       (numbers-by-rest b (sized-model sized) h d
@@ -216,7 +196,7 @@ module _ {b : List ℕ} {s g : ℕ} (sized : Sized b s g) (h : Shape) (d : List 
   dead-uppers-decide o found refused = rw number-parts (first-refused _ _ o found refused)
 
   pub rest-decides : (o x : Outcome) → x ≡ first (eachEntry s g (deadAt s g a uppers 0)) → x ≡ Accepted
-      → o ≡ first (restTests b s g h (exitMarks g a) (uppersOf s g uppers) (take (length d - 8 * n) (drop (8 * n) d)))
+      → o ≡ first (restTests b s g h (exitMarks g a) (uppersOf s g uppers) (take (length d - recordBytes * n) (drop (recordBytes * n) d)))
       → o ≡ first (numberTests b s g h d)
   rest-decides o x dead passed found = rw number-parts (first-rest _ _ o x dead passed found)
 
@@ -227,11 +207,11 @@ module _ (b d : List ℕ) where
   unfolding verdict modelVerdict
   model-decides o = first-refused (modelTests b) (deliveryTests b d) o
 
-  pub delivery-decides : (o x : Outcome) {s g : ℕ} {h : Shaped} → x ≡ modelVerdict b → x ≡ Accepted → s ≡ statesOf b → g ≡ symbolsOf b
-      → h ≡ shapeOf s g d → o ≡ first (shapedTests b s g h d) → o ≡ verdict b d
+  pub delivery-decides : (o x : Outcome) {n : Sizes} {h : Shaped} → x ≡ modelVerdict b → x ≡ Accepted → n ≡ sizesOf b
+      → h ≡ shapeOf (n .states) (n .symbols) d → o ≡ first (shapedTests b (n .states) (n .symbols) h d) → o ≡ verdict b d
   unfolding verdict modelVerdict deliveryTests
-  delivery-decides o x model passed states symbols shape found =
-      first-rest (modelTests b) _ o x model passed (rw (← states, ← symbols, ← shape) found)
+  delivery-decides o x model passed same shape found =
+      first-rest (modelTests b) _ o x model passed (rw (shape, same) at found)
 
 -- 20.
 pub no-shape : (b : List ℕ) (s g : ℕ) (d : List ℕ) → Refused NoShape 0 (pos 0) ≡ first (shapedTests b s g Unknown d)
@@ -245,35 +225,40 @@ module _ (b d : List ℕ) where
   unfolding shapeIn
   shape-of-refused e = rw e
 
-  pub shape-of-accepted : {s g : ℕ} {h : Shaped} → modelVerdict b ≡ Accepted → s ≡ statesOf b → g ≡ symbolsOf b → h ≡ shapeOf s g d
+  pub shape-of-accepted : {n : Sizes} {h : Shaped} → modelVerdict b ≡ Accepted → n ≡ sizesOf b → h ≡ shapeOf (n .states) (n .symbols) d
       → h ≡ shapeIn b d
   unfolding shapeIn
-  shape-of-accepted e states symbols shape = rw (e, ← states, ← symbols) shape
+  shape-of-accepted e same shape = rw e (rw same at shape)
 
   pub none-if-refused : {r : Reason} {i : ℕ} {k : ℤ} → verdict b d ≡ Refused r i k → Absent ≡ shownMargin b d
   unfolding shownMargin
   none-if-refused e = rw e
 
-  module _ {s g : ℕ} (accepted : verdict b d ≡ Accepted) (states : s ≡ statesOf b) (symbols : g ≡ symbolsOf b) where
-    pub none-if-unknown : shapeOf s g d ≡ Unknown → Absent ≡ shownMargin b d
-    unfolding shownMargin
-    none-if-unknown shape = rw (accepted, ← states, ← symbols, shape)
+  module _ {n : Sizes} (accepted : verdict b d ≡ Accepted) (same : n ≡ sizesOf b) where
+    -- The shape by the sizes found is that of the definition.
+    shape-by : {t : Shaped} → shapeOf (n .states) (n .symbols) d ≡ t → shapeOf (statesOf b) (symbolsOf b) d ≡ t
+    shape-by shape = rw same at shape
 
-    pub none-without-lowers : {h : Shape} → shapeOf s g d ≡ Of h → hasLowers h ≡ false → Absent ≡ shownMargin b d
+    pub none-if-unknown : shapeOf (n .states) (n .symbols) d ≡ Unknown → Absent ≡ shownMargin b d
     unfolding shownMargin
-    none-without-lowers shape has = rw (accepted, ← states, ← symbols, shape, has)
+    none-if-unknown shape = rw (accepted, shape-by shape)
 
-    pub shown-with-lowers : {h : Shape} {m : ℕ} → shapeOf s g d ≡ Of h → hasLowers h ≡ true → m ≡ marginOf b d → Shown m ≡ shownMargin b d
+    pub none-without-lowers : {h : Shape} → shapeOf (n .states) (n .symbols) d ≡ Of h → hasLowers h ≡ false → Absent ≡ shownMargin b d
     unfolding shownMargin
-    shown-with-lowers shape has found = rw (accepted, ← states, ← symbols, shape, has, found)
+    none-without-lowers shape has = rw (accepted, shape-by shape, has)
+
+    pub shown-with-lowers : {h : Shape} {m : ℕ} → shapeOf (n .states) (n .symbols) d ≡ Of h → hasLowers h ≡ true → m ≡ marginOf b d
+        → Shown m ≡ shownMargin b d
+    unfolding shownMargin
+    shown-with-lowers shape has found = rw (accepted, shape-by shape, has, found)
 
 -- a lists the live marks of the model b by rows.
 module _ {b : List ℕ} {s g : ℕ} (sized : Sized b s g) (d : List ℕ) {a : List ℕ} {n : ℕ} (e : n ≡ entriesIn s g)
     (marks : ExitsOf s g (alive (rulesOf b) s g) a) where
-  pub accepted-strict : {h : Shape} → verdict b d ≡ Accepted → shapeOf s g d ≡ Of h → hasLowers h ≡ true → Strict b s g a (take (8 * n) d)
-  accepted-strict = strict-of d a (take (8 * n) d) sized (marks .marks) (part-same s g d e)
+  pub accepted-strict : {h : Shape} → verdict b d ≡ Accepted → shapeOf s g d ≡ Of h → hasLowers h ≡ true → Strict b s g a (take (recordBytes * n) d)
+  accepted-strict = strict-of d a (take (recordBytes * n) d) sized (marks .marks) (part-same s g d e)
 
-  pub margin-found : {m : ℕ} → m ≡ leastShare b s g a (take (8 * n) d) → m ≡ marginOf b d
+  pub margin-found : {m : ℕ} → m ≡ leastShare b s g a (take (recordBytes * n) d) → m ≡ marginOf b d
   unfolding marginOf
   margin-found found =
-      found ∙ rw (← sized .states, ← sized .symbols) (least-share d a (take (8 * n) d) sized (marks .marks) (part-same s g d e))
+      found ∙ rw (← sized .states, ← sized .symbols) (least-share d a (take (recordBytes * n) d) sized (marks .marks) (part-same s g d e))

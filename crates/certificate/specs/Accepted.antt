@@ -1,8 +1,9 @@
 -- An accepted delivery in plain words: no reason of document 01's list 20 to 27 applies.
-use Prim.Native.Nat.{ℕ, _+_, _*_, _^_, _≤_, _<_}
+use Prim.Native.Nat.{ℕ, _+_, _*_, _≤_, _<_}
 use mathlib.Core.Bool.{true}
 use mathlib.Core.List.{List}
 use mathlib.Core.Path.{_≡_}
+use Rattle.ppda.specs.Units.{chanceUnit, sumUnit}
 use Rattle.ppda.specs.Equations.{f}
 use Rattle.ppda.specs.Live.{Live}
 use Rattle.ppda.specs.Bounds as Bounds
@@ -13,7 +14,7 @@ use Rattle.delivery.specs.declared.shape.Block.{Block}
 use Rattle.delivery.specs.declared.shape.Block.the-variants.{Uppers, Lowers, Means}
 use Rattle.delivery.specs.declared.shape.Shape.{Shape}
 use Rattle.delivery.specs.declared.shape.Shaped.the-variants.{Of}
-use Rattle.delivery.specs.Records.{byteOf, valueAt, kindOf, leastOf, mostOf}
+use Rattle.delivery.specs.Records.{kindAt, stateAt, symbolAt, exitAt, valueAt, kindOf, leastOf, mostOf}
 use Rattle.delivery.specs.Shapes.{hasLowers, hasMeans, meansFrom, shapeOf}
 use Rattle.ppda.specs.Order.{entriesIn, rowAt, entryAt, AtRows, AtEntries}
 use Rattle.delivery.specs.Numbers.{uppersOf, lowersOf, meansOf}
@@ -38,9 +39,9 @@ pub record LowersRight (b : List ℕ) (s g : ℕ) (d : List ℕ) : Type 0 where
   pub due : AtEntries s g (λ p z q. RecordDue d (entriesIn s g + entryAt s g p z q) Lowers p z q)
   pub dead : AtEntries s g (λ p z q. (Live (rulesOf b) p z q → ⊥) → lowersOf s g d p z q ≡ 0)
   pub strict : AtEntries s g (λ p z q.
-      Live (rulesOf b) p z q → f (rulesOf b) s (2 ^ 20) (uppersOf s g d) p z q < uppersOf s g d p z q * 2 ^ 36)
+      Live (rulesOf b) p z q → f (rulesOf b) s chanceUnit (uppersOf s g d) p z q < uppersOf s g d p z q * sumUnit)
   pub below : AtEntries s g (λ p z q. lowersOf s g d p z q ≤ uppersOf s g d p z q)
-  pub lower : AtEntries s g (λ p z q. lowersOf s g d p z q * 2 ^ 36 ≤ f (rulesOf b) s (2 ^ 20) (lowersOf s g d) p z q)
+  pub lower : AtEntries s g (λ p z q. lowersOf s g d p z q * sumUnit ≤ f (rulesOf b) s chanceUnit (lowersOf s g d) p z q)
 
 -- The mean steps: each record is due, and the inequality holds (27).
 pub record MeansRight (b : List ℕ) (s g : ℕ) (h : Shape) (d : List ℕ) : Type 0 where

@@ -5,8 +5,8 @@ use delivery::layout;
 use delivery::shape::Shape;
 use delivery::shape::Shaped;
 use delivery::shape::shape_of;
-use model::sizes::states;
-use model::sizes::symbols;
+use model::sizes::Sizes;
+use model::sizes::sizes_of;
 use outcome::Outcome;
 use outcome::Reason;
 use outcome::refused;
@@ -15,20 +15,19 @@ ghost use Rattle.outcome.specs.Tests.{first};
 ghost use Rattle.outcome.specs.declared.Outcome.the-variants.{Accepted};
 ghost use Rattle.model.specs.Verdict.{modelVerdict};
 ghost use Rattle.delivery.specs.declared.shape.Shaped.the-variants.{Of};
-ghost use Rattle.delivery.specs.Shapes.{shapeOf};
-ghost use Rattle.model.specs.Accepted.{Sized};
 ghost use Rattle.certificate.specs.Verdict.{shapedTests, verdict};
+ghost use Rattle.certificate.specs.Rest.{SizedFile};
 
 // The tests 21 to 27 of a delivery whose shape is known.
-fn check_shaped(model: &[u8], delivery: &[u8], s: usize, g: usize, shape: Shape) -> Outcome
-    requires { ⌜ Sized (now model) s g × (shapeOf s g (now delivery) ≡ Of shape) ⌝ }
-    ensures { λ r. ⌜ r ≡ first (shapedTests (now (model .entry)) s g (Of shape) (now (delivery .entry))) ⌝ }
+fn check_shaped(model: &[u8], delivery: &[u8], n: Sizes, shape: Shape) -> Outcome
+    requires { ⌜ SizedFile (now model) n shape (now delivery) ⌝ }
+    ensures { λ r. ⌜ r ≡ first (shapedTests (now (model .entry)) (n .states) (n .symbols) (Of shape) (now (delivery .entry))) ⌝ }
 {
-    let found = layout::check(delivery, s, g, shape);
+    let found = layout::check(delivery, n, shape);
     if let Outcome::Refused { .. } = found {
         return found;
     }
-    numbers::check(model, delivery, s, g, shape)
+    numbers::check(model, delivery, n, shape)
 }
 
 // The verdict on any bytes as a delivery beside an accepted model.
@@ -36,10 +35,9 @@ pub fn check(model: &[u8], delivery: &[u8]) -> Outcome
     requires { ⌜ modelVerdict (now model) ≡ Accepted ⌝ }
     ensures { λ r. ⌜ r ≡ verdict (now (model .entry)) (now (delivery .entry)) ⌝ }
 {
-    let s = states(model);
-    let g = symbols(model);
-    match shape_of(delivery, s, g) {
-        Shaped::Of(shape) => check_shaped(model, delivery, s, g, shape),
+    let n = sizes_of(model);
+    match shape_of(delivery, n) {
+        Shaped::Of(shape) => check_shaped(model, delivery, n, shape),
         Shaped::Unknown => refused(Reason::NoShape, 0),
     }
 }

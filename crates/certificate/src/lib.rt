@@ -5,8 +5,7 @@ use delivery::shape::Shaped;
 use delivery::shape::has_lowers;
 use delivery::shape::shape_of;
 use margins::margin_with_lowers;
-use model::sizes::states;
-use model::sizes::symbols;
+use model::sizes::sizes_of;
 use outcome::Outcome;
 
 pub mod answer; // answer.rt: the margin as an answer
@@ -38,7 +37,7 @@ pub fn shape(model: &[u8], delivery: &[u8]) -> Shaped
     if let Outcome::Refused { .. } = found {
         return Shaped::Unknown;
     }
-    shape_of(delivery, states(model), symbols(model))
+    shape_of(delivery, sizes_of(model))
 }
 
 // The margin of any two byte strings: shown where the delivery is accepted and has lowers.
@@ -49,12 +48,11 @@ pub fn margin(model: &[u8], delivery: &[u8]) -> Margin
     if let Outcome::Refused { .. } = found {
         return Margin::Absent;
     }
-    let s = states(model);
-    let g = symbols(model);
-    match shape_of(delivery, s, g) {
+    let n = sizes_of(model);
+    match shape_of(delivery, n) {
         Shaped::Of(shape) => {
             if has_lowers(shape) {
-                Margin::Shown(margin_with_lowers(model, delivery, s, g, shape))
+                Margin::Shown(margin_with_lowers(model, delivery, n, shape))
             } else {
                 Margin::Absent
             }

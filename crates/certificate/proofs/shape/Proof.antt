@@ -4,8 +4,8 @@ use denote.Ref.{now}
 use borrow.Author.Needs.{needs}
 use Rattle.outcome.specs.declared.Outcome.the-variants.{Accepted}
 use Rattle.model.specs.Verdict.{modelVerdict}
-use Rattle.model.proofs.Accepted.{sized-of}
-use Rattle.certificate.proofs.Steps.{some-and-few, shape-of-refused, shape-of-accepted}
+use Rattle.model.proofs.Accepted.{sized-by, sized-fits}
+use Rattle.certificate.proofs.Steps.{shape-of-refused, shape-of-accepted}
 use Rattle.certificate.proofs.shape.Statement.{statement}
 use Rattle.certificate.proofs.shape.Tie as tie
 
@@ -25,19 +25,15 @@ returns c = shape-of-refused _ _ (sym (c .before .before .check .ensures) ∙ c 
 enum-told-2 : tie.Need-enum-told-2
 enum-told-2 c = search needs
 
-states-requires : tie.Need-states-requires
-states-requires c κs = search needs
-
-symbols-requires : tie.Need-symbols-requires
-symbols-requires c κs = search needs
+sizes-of-requires : tie.Need-sizes-of-requires
+sizes-of-requires c κs = search needs
 
 shape-of-requires : tie.Need-shape-of-requires
-shape-of-requires c κs = some-and-few (sized-of (accepted (c .before .before)) (c .before .states .ensures .0) (c .symbols .ensures .0))
+shape-of-requires c κs = sized-fits (sized-by (accepted (c .before)) (c .sizes-of .ensures .0))
 
 returns-2 : tie.Need-returns-2
 returns-2 c =
-    shape-of-accepted _ _ (accepted (c .before .before .before)) (c .before .before .states .ensures .0) (c .before .symbols .ensures .0)
-    (c .shape-of .ensures)
+    shape-of-accepted _ _ (accepted (c .before .before)) (c .before .sizes-of .ensures .0) (c .shape-of .ensures)
 
 pub shape-spec : {M : Type 1} → statement M
 shape-spec =
@@ -47,7 +43,6 @@ shape-spec =
     enum-told
     returns
     enum-told-2
-    states-requires
-    symbols-requires
+    sizes-of-requires
     shape-of-requires
     returns-2)

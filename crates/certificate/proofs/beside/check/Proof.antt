@@ -3,23 +3,19 @@ use mathlib.Core.Path.{refl, sym, _∙_}
 use denote.Ref.{now}
 use borrow.Author.Needs.{needs}
 use Rattle.model.specs.Accepted.{Sized}
-use Rattle.model.proofs.Accepted.{sized-of}
-use Rattle.certificate.proofs.Steps.{some-and-few, delivery-decides, no-shape}
+use Rattle.model.proofs.Accepted.{sized-by, sized-fits}
+use Rattle.certificate.proofs.Steps.{delivery-decides, no-shape}
 use Rattle.certificate.proofs.beside.check.Statement.{statement}
 use Rattle.certificate.proofs.beside.check.Tie as tie
 
-sized : (c : tie.After-symbols) → let args = c .before .before .before .before .args in
-    Sized (now (args .model)) (c .before .states .result) (c .symbols .result)
-sized c = sized-of (c .before .before .before .before .pre) (c .before .states .ensures .0) (c .symbols .ensures .0)
+sized : (c : tie.After-sizes-of) → let n = c .sizes-of .result in Sized (now (c .before .before .before .args .model)) (n .states) (n .symbols)
+sized c = sized-by (c .before .before .before .pre) (c .sizes-of .ensures .0)
 
-states-requires : tie.Need-states-requires
-states-requires c κs = search needs
-
-symbols-requires : tie.Need-symbols-requires
-symbols-requires c κs = search needs
+sizes-of-requires : tie.Need-sizes-of-requires
+sizes-of-requires c κs = search needs
 
 shape-of-requires : tie.Need-shape-of-requires
-shape-of-requires c κs = some-and-few (sized c)
+shape-of-requires c κs = sized-fits (sized c)
 
 enum-known-shape : tie.Need-enum-known-shape
 enum-known-shape c = search needs
@@ -27,7 +23,7 @@ enum-known-shape c = search needs
 check-shaped-requires : tie.Need-check-shaped-requires
 check-shaped-requires c κs =
     let shape = c .before in
-    (sized (shape .before .before .before), sym (shape .before .before .shape-of .ensures) ∙ shape .shape .given .1)
+    record { sized = sized (shape .before .before .before); of = sym (shape .before .before .shape-of .ensures) ∙ shape .shape .given .1 }
 
 enum-told : tie.Need-enum-told
 enum-told c = search needs
@@ -38,24 +34,21 @@ refused-requires c κs = search needs
 returns : tie.Need-returns
 returns c =
     let shape = c .before .before in
-    let symbols = shape .before .before .before in
-    delivery-decides _ _ _ _ refl (symbols .before .before .before .before .pre)
-    (symbols .before .states .ensures .0) (symbols .symbols .ensures .0)
+    let sizes = shape .before .before .before in
+    delivery-decides _ _ _ _ refl (sizes .before .before .before .pre) (sizes .sizes-of .ensures .0)
     (sym (shape .shape .given .1) ∙ shape .before .before .shape-of .ensures) (c .check-shaped .ensures)
 
 returns-2 : tie.Need-returns-2
 returns-2 c =
-    let symbols = c .before .before .before .before in
-    delivery-decides _ _ _ _ refl (symbols .before .before .before .before .pre)
-    (symbols .before .states .ensures .0) (symbols .symbols .ensures .0)
+    let sizes = c .before .before .before .before in
+    delivery-decides _ _ _ _ refl (sizes .before .before .before .pre) (sizes .sizes-of .ensures .0)
     (sym (c .before .enum-told .given .1) ∙ c .before .before .before .shape-of .ensures) (c .refused .ensures ∙ no-shape _ _ _ _)
 
 pub check-spec : {M : Type 1} → statement M
 check-spec =
     tie.close
     (tie.spec
-    states-requires
-    symbols-requires
+    sizes-of-requires
     shape-of-requires
     enum-known-shape
     check-shaped-requires

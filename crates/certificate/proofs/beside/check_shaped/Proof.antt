@@ -3,15 +3,13 @@ use mathlib.Core.Path.{sym, _∙_}
 use borrow.Author.Needs.{needs}
 use Rattle.outcome.proofs.Tests.{first-refused, first-rest}
 use Rattle.certificate.specs.Verdict.{shapedTests}
-use Rattle.certificate.proofs.Steps.{some-and-few}
+use Rattle.model.proofs.Accepted.{sized-fits}
 use Rattle.certificate.proofs.beside.check_shaped.Statement.{statement}
 use Rattle.certificate.proofs.beside.check_shaped.Tie as tie
 
 check-requires : tie.Need-check-requires
 check-requires c κs =
-    let pre = c .before .before .pre in
-    let sizes = some-and-few (pre .0) in
-    (pre .1, sizes .0, sizes .1, sizes .2, sizes .3)
+    let pre = c .before .before .pre in record { fits = sized-fits (pre .sized); of = pre .of }
 
 enum-told : tie.Need-enum-told
 enum-told c = search needs
@@ -25,8 +23,7 @@ enum-told-2 c = search needs
 
 check-requires-2 : tie.Need-check-requires-2
 check-requires-2 c κs =
-    let pre = c .before .before .before .before .before .pre in
-    (pre .0, pre .1, sym (c .before .before .check .ensures) ∙ c .enum-told2 .given .1)
+    record { file = c .before .before .before .before .before .pre; layout = sym (c .before .before .check .ensures) ∙ c .enum-told2 .given .1 }
 
 returns-2 : tie.Need-returns-2
 unfolding shapedTests

@@ -7,7 +7,8 @@ use lib.Seq.{length-take-le}
 use borrow.Author.Tests.{not-true, not-false}
 use borrow.Author.Needs.{needs}
 use Rattle.outcome.proofs.Tests.{first-empty}
-use Rattle.certificate.proofs.Steps.{few, lowers-whole, lowers-in-range, below-refused, lower-found}
+use Rattle.model.proofs.Accepted.{sized-fits}
+use Rattle.certificate.proofs.Steps.{lowers-whole, lowers-in-range, below-refused, lower-found}
 use Rattle.certificate.proofs.numbers.check_lowers.Statement.{statement}
 use Rattle.certificate.proofs.numbers.check_lowers.Tie as tie
 
@@ -19,21 +20,21 @@ returns : tie.Need-returns
 returns c = rw (not-true (c .before .before .before .before .args .lowers) (c .if1 .taken)) (sym first-empty)
 
 entries-requires : tie.Need-entries-requires
-entries-requires c κs = few (c .before .before .before .before .pre .0)
+entries-requires c κs = sized-fits (c .before .before .before .before .pre .0 .0 .sized)
 
 mul-block : tie.Need-mul-block
 mul-block c = search needs
 
 slice-aggregate-block : tie.Need-slice-aggregate-block
 slice-aggregate-block c =
-    let read = c .before .before .before .before .before .before .pre .3 (stand (c .before .before)) in
+    let read = c .before .before .before .before .before .before .pre .1 (stand (c .before .before)) in
     sym (length-take-le _ _ (lowers-whole _ _ _ read (c .before .entries .ensures .0)))
 
 check-below-requires : tie.Need-check-below-requires
 check-below-requires c κs =
     let pre = c .before .before .before .before .before .before .pre in
     let e = c .before .entries .ensures .0 in
-    omega (arith, lowers-in-range _ _ _ (pre .3 (stand (c .before .before))) e .whole, pre .2 .whole)
+    omega (arith, lowers-in-range _ _ _ (pre .1 (stand (c .before .before))) e .whole, pre .0 .1 .whole)
 
 enum-told : tie.Need-enum-told
 enum-told c = search needs
@@ -52,14 +53,14 @@ check-requires : tie.Need-check-requires
 check-requires c κs =
     let entries = c .before .before .before .before in
     let pre = entries .before .before .before .before .before .pre in
-    let e = entries .entries .ensures in (pre .0, pre .1, lowers-in-range _ _ _ (pre .3 (stand (entries .before))) (e .0), e .1)
+    (pre .0 .0, lowers-in-range _ _ _ (pre .1 (stand (entries .before))) (entries .entries .ensures .0))
 
 returns-3 : tie.Need-returns-3
 returns-3 c =
     let entries = c .before .before .before .before .before in
     let start = entries .before .before .before .before .before in
     lower-found _ _ _ (entries .entries .ensures .0) (start .args .lowers) (stand (entries .before))
-    (start .pre .0) (now (start .args .live)) (now (start .args .uppers)) _ _
+    (start .pre .0 .0 .sized) (now (start .args .live)) (now (start .args .uppers)) _ _
     (c .before .before .before .check-below .ensures) (c .before .enum-told2 .given .1) (c .check .ensures)
 
 pub check-lowers-spec : {M : Type 1} → statement M

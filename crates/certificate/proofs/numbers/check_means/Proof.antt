@@ -8,7 +8,9 @@ use borrow.Author.Needs.{needs}
 use lib.ListN.{length}
 use Prim.Native.Nat.{_*_, _≤_}
 use Rattle.delivery.specs.Shapes.{hasLowers, hasMeans}
-use Rattle.certificate.proofs.Steps.{few, lowers-whole, block-after-lowers, block-alone, no-means, means-after-lowers, means-alone}
+use Rattle.delivery.specs.Format.{recordBytes}
+use Rattle.model.proofs.Accepted.{sized-fits}
+use Rattle.certificate.proofs.Steps.{lowers-whole, block-after-lowers, block-alone, no-means, means-after-lowers, means-alone}
 use Rattle.certificate.proofs.numbers.check_means.Statement.{statement}
 use Rattle.certificate.proofs.numbers.check_means.Tie as tie
 
@@ -22,10 +24,10 @@ lowers-stand c = sym (c .before .has-lowers .ensures) ∙ c .if2 .taken
 -- There the rest has them.
 whole : (c : tie.Then2)
     → let entries = c .before .before in
-    8 * entries .entries .result ≤ length (now (entries .before .before .before .before .before .before .args .rest))
+    recordBytes * entries .entries .result ≤ length (now (entries .before .before .before .before .before .before .args .rest))
 whole c =
     let entries = c .before .before in
-    lowers-whole _ _ _ (entries .before .before .before .before .before .before .pre .3 .lowers (lowers-stand c)) (entries .entries .ensures .0)
+    lowers-whole _ _ _ (entries .before .before .before .before .before .before .pre .read .lowers (lowers-stand c)) (entries .entries .ensures .0)
 
 has-means-requires : tie.Need-has-means-requires
 has-means-requires c κs = search needs
@@ -36,7 +38,7 @@ returns c =
     (sym (c .before .has-means .ensures) ∙ not-true _ (c .if1 .taken))
 
 entries-requires : tie.Need-entries-requires
-entries-requires c κs = few (c .before .before .before .before .before .pre .0)
+entries-requires c κs = sized-fits (c .before .before .before .before .before .pre .indexed .sized)
 
 has-lowers-requires : tie.Need-has-lowers-requires
 has-lowers-requires c κs = search needs
@@ -60,8 +62,8 @@ check-requires : tie.Need-check-requires
 check-requires c κs =
     let entries = c .before .before .before in
     let pre = entries .before .before .before .before .before .before .pre in
-    let block = block-after-lowers (pre .3) (means-stand (entries .before)) (entries .entries .ensures .0) (lowers-stand (c .before)) in
-    (pre .0, pre .1, pre .2, block, omega arith)
+    let block = block-after-lowers (pre .read) (means-stand (entries .before)) (entries .entries .ensures .0) (lowers-stand (c .before)) in
+    ((pre .indexed, pre .uppers, block), omega arith)
 
 returns-2 : tie.Need-returns-2
 returns-2 c =
@@ -72,8 +74,8 @@ returns-2 c =
 check-requires-2 : tie.Need-check-requires-2
 check-requires-2 c κs =
     let pre = c .before .before .before .before .before .before .before .before .pre in
-    let block = block-alone (pre .3) (means-stand (c .before .before .before)) (sym (c .before .has-lowers .ensures) ∙ c .if2 .left) in
-    (pre .0, pre .1, pre .2, block, omega arith)
+    let block = block-alone (pre .read) (means-stand (c .before .before .before)) (sym (c .before .has-lowers .ensures) ∙ c .if2 .left) in
+    ((pre .indexed, pre .uppers, block), omega arith)
 
 returns-3 : tie.Need-returns-3
 returns-3 c =

@@ -2,7 +2,8 @@
 use mathlib.Core.Path.{sym, _∙_}
 use denote.Ref.{now}
 use borrow.Author.Needs.{needs}
-use Rattle.certificate.proofs.Steps.{some-and-few, dead-decides, uppers-decide, lowers-decide, means-decide}
+use Rattle.model.proofs.Accepted.{sized-fits}
+use Rattle.certificate.proofs.Steps.{dead-decides, uppers-decide, lowers-decide, means-decide}
 use Rattle.certificate.proofs.numbers.check_rest.Statement.{statement}
 use Rattle.certificate.proofs.numbers.check_rest.Tie as tie
 
@@ -12,8 +13,7 @@ has-lowers-requires c κs = search needs
 dead-lowers-requires : tie.Need-dead-lowers-requires
 dead-lowers-requires c κs =
     let pre = c .before .before .before .before .pre in
-    let sizes = some-and-few (pre .0) in
-    (sizes .1, sizes .2, sizes .3, λ stand. pre .3 .lowers (sym (c .has-lowers .ensures) ∙ stand))
+    (sized-fits (pre .indexed .sized), λ stand. pre .read .lowers (sym (c .has-lowers .ensures) ∙ stand))
 
 enum-told : tie.Need-enum-told
 enum-told c = search needs
@@ -47,7 +47,7 @@ enum-told-4 c = search needs
 check-lowers-requires : tie.Need-check-lowers-requires
 check-lowers-requires c κs =
     let pre = c .before .before .before .before .before .before .before .before .before .before .pre in
-    (pre .0, pre .1, pre .2, λ stand. pre .3 .lowers (sym (c .before .before .before .before .before .before .has-lowers .ensures) ∙ stand))
+    ((pre .indexed, pre .uppers), λ stand. pre .read .lowers (sym (c .before .before .before .before .before .before .has-lowers .ensures) ∙ stand))
 
 enum-told-5 : tie.Need-enum-told-5
 enum-told-5 c = search needs

@@ -25,14 +25,14 @@ mul-block c = search needs
 
 slice-aggregate-block : tie.Need-slice-aggregate-block
 slice-aggregate-block c =
-    let read = c .before .before .before .before .pre .3 (stand (c .before .before)) in
+    let read = c .before .before .before .before .pre .1 (stand (c .before .before)) in
     sym (length-take-le _ _ (lowers-whole _ _ _ read (c .before .entries .ensures .0)))
 
 check-dead-requires : tie.Need-check-dead-requires
 check-dead-requires c κs =
     let pre = c .before .before .before .before .pre in
     let entries = c .before .entries in
-    (pre .0, pre .1, pre .2, lowers-in-range _ _ _ (pre .3 (stand (c .before .before))) (entries .ensures .0) .whole, entries .ensures .1)
+    ((pre .0, lowers-in-range _ _ _ (pre .1 (stand (c .before .before))) (entries .ensures .0) .whole), entries .ensures .1)
 
 returns-2 : tie.Need-returns-2
 returns-2 c =
