@@ -1,5 +1,5 @@
 -- The tests of a block of numbers, as the code goes through them: they read no number but those of the model's entries and rows, in the
--- code's order they are the tests by (p, Z, q), and a part of a file that ends with a block, or the list of its values, stands for the block.
+-- code's order they are the tests by (p, Z, q), and a part of a file that ends with a block stands for the block.
 use Prim.Native.Nat.{ℕ, _+_, _*_, _^_, _≤_, _<_}
 use native.Mathlib.Nat.{zero-add}
 use native.Mathlib.Omega.{arith}
@@ -16,17 +16,17 @@ use Rattle.words.specs.Words.{wordAt}
 use Rattle.outcome.specs.Tests.{Test, each}
 use Rattle.outcome.proofs.Tests.{each-cong}
 use Rattle.ppda.specs.Rules.{Rule, IsModel}
-use Rattle.ppda.specs.Equations.{Vector, RowVector, entries, rows, f, SameRows, Same}
+use Rattle.ppda.specs.Equations.{Vector, RowVector, f, SameRows, Same}
 use Rattle.ppda.specs.Live.{isLive}
 use Rattle.model.specs.Rules.{rulesOf}
 use Rattle.delivery.specs.Records.{valueAt}
 use Rattle.ppda.specs.Order.{entriesIn, entryAt, rowAt}
 use Rattle.delivery.specs.Numbers.{uppersOf, rowsOfBlock}
 use Rattle.delivery.specs.Layout.{eachEntry, eachRow}
-use Rattle.delivery.specs.Walks.{Values, Within}
+use Rattle.delivery.specs.Walks.{Within}
 use Rattle.delivery.proofs.Walks.{entries-by-number}
 use Rattle.live.specs.Exits.{exitMarks}
-use Rattle.ppda.proofs.Places.{row-below, entry-below}
+use Rattle.ppda.proofs.Places.{entry-below}
 use Rattle.ppda.proofs.Vectors.{f-same, mean-side-same}
 use Rattle.inequalities.specs.declared.sides.Side.the-variants.{Upper, StrictUpper, Lower}
 use Rattle.inequalities.specs.Inequalities.{deadTest, upperTest, belowTest, lowerTest, meanTest, deadTests, upperTests, belowTests, lowerTests, meanTests}
@@ -156,12 +156,3 @@ ends-within d n a ends most = record { whole = omega arith; most = λ e. go e (l
 pub part-within : (d : List ℕ) (n a : ℕ) → recordBytes * n ≤ length d → ((e : ℕ) → e < n → valueAt d e ≤ a) → Within (take (recordBytes * n) d) n a
 part-within d n a whole most =
     ends-within (take (recordBytes * n) d) n a (length-take-le (recordBytes * n) d whole) (λ e h. rw (part-value d n e h) (most e h))
-
--- ---- the list of a block's values
-
-pub values-same : (s g : ℕ) {d l : List ℕ} → Values d (s * g * s) l → Same s g (entries s g l) (uppersOf s g d)
-unfolding uppersOf
-values-same s g values p z q hp hz hq = values .value (entryAt s g p z q) (entry-below s g p z q hp hz hq)
-
-pub values-rows : (s g : ℕ) {d l : List ℕ} → Values d (s * g) l → SameRows s g (rows g l) (rowsOfBlock g d)
-values-rows s g values p z hp hz = values .value (rowAt g p z) (row-below s g p z hp hz)

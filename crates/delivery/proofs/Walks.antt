@@ -1,26 +1,20 @@
 -- Two ways through a block: nested by state, symbol and exit, as the tests are defined, and number by number, as the crates above go.
--- Besides, the values past the first records, and the list of values that a loop fills.
+-- Besides, the values past the first records.
 use Prim.Native.Nat.{ℕ, zero, suc, _+_, _*_, _/_, _%_, _<_}
 use native.Mathlib.Nat.{add-zero, add-suc, zero-mul, suc-mul}
 use native.Mathlib.Omega.{arith}
-use mathlib.Core.Bool.{Bool, true, false}
 use mathlib.Core.List.{List, _++_, append-nil, append-assoc}
-use mathlib.Core.Path.{_≡_, refl, sym, ap, ap₂, subst, _∙_}
-use lib.Dec.{eqb}
-use lib.ListN.{getD, set, drop, replicate, length-set, length-replicate}
-use lib.Seq.{getD-drop, getD-set-same, getD-set-other}
-use borrow.Author.Tests.{eqb-true, eqb-false}
+use mathlib.Core.Path.{_≡_, refl, sym, ap, ap₂, _∙_}
+use lib.ListN.{getD, drop}
+use lib.Seq.{getD-drop}
 use Rattle.words.specs.Words.{wordAt}
-use Rattle.ppda.proofs.Lists.{getD-zeros}
 use Rattle.ppda.proofs.Places.{row-at}
 use Rattle.outcome.specs.Tests.{Test, each}
-use Rattle.model.specs.Format.{mostEntries}
 use Rattle.outcome.proofs.Tests.{each-cong}
 use Rattle.delivery.specs.Format.{recordBytes, valueByte}
 use Rattle.delivery.specs.Records.{valueAt}
 use Rattle.ppda.specs.Order.{entryAt}
 use Rattle.delivery.specs.Layout.{eachEntry, eachRow}
-use Rattle.delivery.specs.Walks.{Values}
 
 -- ---- n times m tests, nested and in one sequence
 
@@ -70,23 +64,3 @@ word-past d n at to e = rw (getD-drop n d at 0, e, byte 1, byte 2, byte 3)
 pub rest-value : (d : List ℕ) (n i : ℕ) → valueAt (drop (recordBytes * n) d) i ≡ valueAt d (n + i)
 unfolding valueAt
 rest-value d n i = word-past d (recordBytes * n) (recordBytes * i + valueByte) (recordBytes * (n + i) + valueByte) (omega arith)
-
--- ---- the values of the first n records, one after the other
-
-pub values-none : (d : List ℕ) → Values d 0 (replicate mostEntries 0)
-values-none d = record { size = length-replicate {A = ℕ} mostEntries 0; value = λ e h. absurd (omega arith); none = λ e h. getD-zeros mostEntries e }
-
-pub values-step : {d : List ℕ} {n : ℕ} {l : List ℕ} (v : ℕ) → Values d n l → n < mostEntries → v ≡ valueAt d n → Values d (n + 1) (set l n v)
-values-step {d} {n} {l} v before room e =
-    record {
-      size = length-set l n v ∙ before .size;
-      value = λ i h. go i h (eqb i n) refl;
-      none = λ i h. getD-set-other l n i v 0 (λ q. omega arith) ∙ before .none i (omega arith);
-    }
-  where
-    go : (i : ℕ) → i < n + 1 → (t : Bool) → eqb i n ≡ t → getD (set l n v) i 0 ≡ valueAt d i
-    go i h true u = let q : i ≡ n = eqb-true i n u in rw q (getD-set-same l n v 0 (omega (arith, before .size)) ∙ e)
-    go i h false u = let q : i ≡ n → ⊥ = eqb-false i n u in getD-set-other l n i v 0 q ∙ before .value i (omega arith)
-
-pub values-end : {d : List ℕ} {n m : ℕ} {l : List ℕ} → Values d n l → n ≡ m → Values d m l
-values-end {d} {l = l} v e = subst (λ k. Values d k l) e v

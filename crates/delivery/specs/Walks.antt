@@ -2,11 +2,10 @@
 use Prim.Native.Nat.{ℕ, _+_, _*_, _≤_, _<_}
 use mathlib.Core.List.{List}
 use mathlib.Core.Path.{_≡_}
-use lib.ListN.{length, getD}
+use lib.ListN.{length}
 use Rattle.outcome.specs.Tests.{Test, each}
 use Rattle.ppda.specs.Order.{rowsIn, entriesIn}
 use Rattle.ppda.specs.Units.{mostChance, mostMean}
-use Rattle.model.specs.Format.{mostEntries}
 use Rattle.model.specs.declared.sizes.Sizes.{Sizes}
 use Rattle.model.specs.Sizes.{Fits}
 use Rattle.delivery.specs.declared.shape.Block.{Block}
@@ -28,12 +27,6 @@ rowOfState d k at n p z = each n (recordOfRow d k (at + z * n) p z)
 -- The records of state p of a block that starts at record `from`.
 abbrev pub stateOfBlock : List ℕ → Block → ℕ → ℕ → ℕ → ℕ → List Test
 stateOfBlock d k from n g p = each g (rowOfState d k (from + p * g * n) n p)
-
--- The list of as many numbers as entries may have has the values of the first n records of d, and 0 from there on.
-pub record Values (d : List ℕ) (n : ℕ) (l : List ℕ) : Type 0 where
-  pub size : length l ≡ mostEntries
-  pub value : (e : ℕ) → e < n → getD l e 0 ≡ valueAt d e
-  pub none : (e : ℕ) → n ≤ e → getD l e 0 ≡ 0
 
 -- The file has n records, and n records from record `at` on.
 abbrev pub HasRecords : ℕ → List ℕ → Type 0

@@ -1,14 +1,16 @@
--- The laws of sums and of least values.
+-- The laws of sums, of least values and of tests over numbers.
 use Prim.Native.Nat.{ℕ, zero, suc, _+_, _*_, _≤_, _<_, min}
 use native.Mathlib.Nat.{le-min, le-refl, add-le-add, zero-add, mul-zero, zero-mul, eq-zero-or-pos, not-suc-le-zero, eq-or-lt-of-le, le-of-suc-le-suc}
 use native.Mathlib.Numerals.{add-one}
 use native.Mathlib.Omega.{arith}
+use mathlib.Core.Bool.{Bool, true, and-eq-true-iff}
 use mathlib.Core.Path.{_≡_, refl, sym, ap, ap₂, _∙_}
 use mathlib.Core.List.{List, [], _∷_, _++_, map, flatMap}
-use mathlib.Core.Logic.{_⊎_, inl, inr}
+use mathlib.Core.Logic.{_⊎_, inl, inr, _↔_}
 use lib.Dec.{eqb}
 use borrow.Author.Tests.{eq-eqb, ne-eqb}
-use Rattle.ppda.specs.Sums.{bit, sign, sum, sumTo, leastTo, In}
+use borrow.Author.Count.{below-more}
+use Rattle.ppda.specs.Sums.{bit, sign, sum, sumTo, leastTo, allTo, In}
 
 -- ---- over a list
 
@@ -228,3 +230,14 @@ right-of-product a (suc b) h = omega arith
 pub bit-le : (a b : ℕ) → a ≤ 1 → (0 < a → 0 < b) → a ≤ b
 bit-le zero b h k = omega arith
 bit-le (suc a) b h k = let t : 0 < b = k (omega arith) in omega arith
+
+-- ---- tests
+
+pub all-exactly : (h : ℕ → Bool) (n : ℕ) → (allTo h n ≡ true) ↔ ((e : ℕ) → e < n → h e ≡ true)
+unfolding allTo
+all-exactly h zero = (λ q e lt. absurd (omega arith), λ all. refl)
+all-exactly h (suc n) = (
+  λ q e lt. let (all, last) = and-eq-true-iff (allTo h n) (h n) .0 q in
+      below-more (λ e. h e ≡ true) n (all-exactly h n .0 all) last e (omega arith),
+  λ all. and-eq-true-iff (allTo h n) (h n) .1 (all-exactly h n .1 (λ e lt. all e (omega arith)), all n (omega arith)),
+)

@@ -1,6 +1,6 @@
--- Sums, least values and truth values as numbers.
+-- Walks over the numbers 0, 1, …, n − 1 and over lists: sums, least values, tests; and truth values as numbers.
 use Prim.Native.Nat.{ℕ, zero, suc, _+_, min}
-use mathlib.Core.Bool.{Bool, true, false}
+use mathlib.Core.Bool.{Bool, true, false, _&&_}
 use mathlib.Core.List.{List, [], _∷_}
 use mathlib.Core.Logic.{_⊎_}
 use mathlib.Core.Path.{_≡_}
@@ -29,6 +29,11 @@ sumTo h (suc n) = sumTo h n + h n
 unfoldable pub leastTo : ℕ → (ℕ → ℕ) → ℕ → ℕ
 leastTo top h zero = top
 leastTo top h (suc n) = min (leastTo top h n) (h n)
+
+-- h holds of 0, 1, …, n − 1.
+unfoldable pub allTo : (ℕ → Bool) → ℕ → Bool
+allTo h zero = true
+allTo h (suc n) = allTo h n && h n
 
 -- x is an element of the list.
 abbrev pub In : {A : Type 0} → A → List A → Type 0

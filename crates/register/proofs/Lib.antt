@@ -1,6 +1,3 @@
--- The register: laws of the lists that it holds and of places in them, and what each filing comes to.
-pub mod Lists
-pub mod Bounds
+-- The register: what each filing comes to, and answers.
 pub mod Answers
-pub mod Blocks
 pub mod Steps

@@ -1,78 +1,54 @@
--- What an accepted file becomes, and what each filing gives, as the code finds it.
-use Prim.Native.Nat.{ℕ, _≤_}
-use native.Mathlib.Omega.{arith}
-use mathlib.Core.Bool.{Bool, true, false, false≢true, cond, _&&_, and-eq-true-iff}
+-- What each filing gives, as the code finds it.
+use Prim.Native.Nat.{ℕ, _<_}
+use mathlib.Core.Bool.{Bool, true, false, _&&_, false≢true}
 use mathlib.Core.List.{List}
-use mathlib.Core.Path.{_≡_, refl}
-use lib.Dec.{ltb, leb}
+use mathlib.Core.Logic.{_↔_}
+use mathlib.Core.Path.{_≡_, refl, sym}
 use lib.IntN.{pos}
-use lib.ListN.{length, take}
-use borrow.Author.Tests.{leb-true}
+use lib.ListN.{getD, take}
+use borrow.Author.Tests.{eqb-true, eq-eqb}
 use Rattle.outcome.specs.declared.Reason.the-variants.{NoModel, ModelHeld}
 use Rattle.outcome.specs.declared.Outcome.{Outcome}
 use Rattle.outcome.specs.declared.Outcome.the-variants.{Accepted, Refused}
 use Rattle.outcome.specs.Tests.{isRefused}
 use Rattle.outcome.proofs.Tests.{not-refused}
-use Rattle.model.specs.Records.{statesOf, symbolsOf}
-use Rattle.model.specs.Verdict.{modelVerdict}
-use Rattle.model.proofs.Accepted.{model-accepted}
-use Rattle.delivery.specs.declared.shape.Shape.{Shape}
-use Rattle.delivery.specs.declared.shape.Shaped.the-variants.{Of}
-use Rattle.delivery.specs.Shapes.{hasLowers, hasMeans, shapeOf}
+use Rattle.ppda.specs.Sums.{allTo}
 use Rattle.ppda.specs.Order.{entriesIn}
-use Rattle.delivery.specs.Numbers.{lowersOf, meansOf}
-use Rattle.delivery.specs.Walks.{Values}
-use Rattle.equations.specs.Held.{Marks}
-use Rattle.live.specs.Shown.{liveMark}
+use Rattle.ppda.proofs.Sums.{all-exactly}
+use Rattle.model.specs.declared.sizes.Sizes.{Sizes}
+use Rattle.model.specs.Sizes.{sizesOf}
+use Rattle.model.specs.Verdict.{modelVerdict}
+use Rattle.delivery.specs.declared.shape.Shape.{Shape}
+use Rattle.delivery.specs.Shapes.{shapeOf}
 use Rattle.certificate.specs.Verdict.{verdict}
-use Rattle.certificate.specs.Margin.{marginOf}
-use Rattle.certificate.proofs.Accepted.{delivery-accepted}
-use Rattle.register.specs.declared.held.HeldModel.{HeldModel}
-use Rattle.register.specs.declared.held.HeldDelivery.the-variants as Held
-use Rattle.register.specs.declared.held.Numbers.{Numbers}
+use Rattle.held.specs.declared.HeldModel.{HeldModel}
+use Rattle.held.specs.declared.HeldDelivery.the-variants as Held
+use Rattle.held.specs.declared.Numbers.{Numbers}
+use Rattle.held.specs.Held.{modelHeld, numbersHeld, noNumbers, holdsModel, isHeld, shapeAs}
 use Rattle.register.specs.declared.answer.Mark.{Mark}
 use Rattle.register.specs.declared.answer.Mark.the-variants.{Known, New}
 use Rattle.register.specs.declared.Register.{Register}
 use Rattle.register.specs.declared.Filed.{Filed}
 use Rattle.register.specs.declared.Received.{Received}
-use Rattle.register.specs.Held.{filled, listed, listedRows, ifStanding, modelHeld, numbersHeld, noNumbers, holdsModel, isHeld}
-use Rattle.register.specs.Filing.{fileOf, withModel, turnedDown, modelBy, fileModel, turnedAway, deliveryBy, shapeAs, shapeFor, sameTo, markBy, fileDelivery}
-use Rattle.register.proofs.Lists.{live-listed}
-use Rattle.register.proofs.Blocks.{uppers-listed}
+use Rattle.register.specs.Filing.{fileOf, withModel, turnedDown, modelBy, fileModel, turnedAway, deliveryBy, shapeFor, sameTo, markBy, fileDelivery}
 
--- ---- an accepted model
+-- ---- the same first n numbers
 
-pub model-fits : (b : List ℕ) → modelVerdict b ≡ Accepted → length b ≤ 10240
-model-fits b accepted = let records = model-accepted b .0 accepted .records in omega (arith, records .whole, records .most)
+-- Two tests that hold in the same cases are the same.
+same-test : (a b : Bool) → (a ≡ true) ↔ (b ≡ true) → a ≡ b
+same-test true b f = sym (f .0 refl)
+same-test false true f = f .1 refl
+same-test false false f = refl
 
-pub model-is : (b : List ℕ) {bytes live : List ℕ} {s g : ℕ} → bytes ≡ filled 10240 b → s ≡ statesOf b → g ≡ symbolsOf b
-    → Marks (statesOf b) (symbolsOf b) (liveMark b) live
-    → _≡_ {A = HeldModel} (record { bytes = bytes; length = length b; states = s; symbols = g; live = live }) (modelHeld b)
-unfolding modelHeld
-model-is b e states symbols marks = rw (e, states, symbols, live-listed _ _ _ marks)
+pub same-exactly : (n : ℕ) (l k : List ℕ) → (sameTo n l k ≡ true) ↔ ((e : ℕ) → e < n → getD l e 0 ≡ getD k e 0)
+unfolding sameTo
+same-exactly n l k = (
+  λ q e lt. eqb-true _ _ (all-exactly _ n .0 q e lt),
+  λ all. all-exactly _ n .1 (λ e lt. eq-eqb _ _ (all e lt)),
+)
 
--- A held model's length is that of a file that can be accepted.
-pub held-fits : (n : ℕ) → holdsModel n ≡ true → n ≤ 10240
-unfolding holdsModel
-held-fits n holds = leb-true n 10240 (and-eq-true-iff (ltb 0 n) (leb n 10240) .0 holds .1)
-
--- ---- an accepted delivery
-
-module _ (b d : List ℕ) {s g : ℕ} (states : s ≡ statesOf b) (symbols : g ≡ symbolsOf b) where
-  -- An accepted delivery has its shape.
-  pub shape-by-verdict : {h : Shape} → verdict b d ≡ Accepted → h ≡ shapeAs (shapeOf s g d) → shapeOf s g d ≡ Of h
-  shape-by-verdict accepted is =
-      let filed = delivery-accepted b d .0 accepted in
-      let shape : shapeOf s g d ≡ Of (filed .shaped) = rw (states, symbols) (filed .delivery .shape) in
-      rw (is, shape)
-
-  pub numbers-are : (h : Shape) {u l r : List ℕ} {n m : ℕ} → n ≡ entriesIn s g → Values d n u
-      → l ≡ ifStanding (hasLowers h) (listed s g (lowersOf s g d))
-      → r ≡ ifStanding (hasMeans h) (listedRows s g (meansOf s g h d))
-      → m ≡ cond (hasLowers h) (marginOf b d) 0
-      → _≡_ {A = Numbers} (record { uppers = u; lowers = l; means = r; margin = m }) (numbersHeld b h d)
-  unfolding numbersHeld
-  numbers-are h e values lowers means margin = rw (← states, ← symbols, uppers-listed s g d e values, lowers, means, margin)
+pub same-found : (n : ℕ) (l k : List ℕ) {t : Bool} → (t ≡ true) ↔ ((e : ℕ) → e < n → getD l e 0 ≡ getD k e 0) → t ≡ sameTo n l k
+same-found n l k {t} f = same-test t (sameTo n l k) (λ q. same-exactly n l k .1 (f .0 q), λ q. f .1 (same-exactly n l k .0 q))
 
 -- ---- the mark of a delivery
 
@@ -123,13 +99,13 @@ module _ (r : Register) (d : List ℕ) {o : Outcome} where
     unfolding fileDelivery fileOf
     delivery-turned-away e = rw (holds, ← found) (delivery-by o r _ d e)
 
-    pub delivery-filed : {h : Shape} {n : Numbers} {s g v : ℕ} {t : Bool} {m : Mark} → isRefused o ≡ false
-        → h ≡ shapeAs (shapeOf s g d)
+    pub delivery-filed : {h : Shape} {n : Numbers} {z : Sizes} {v : ℕ} {t : Bool} {m : Mark} → isRefused o ≡ false
+        → h ≡ shapeAs (shapeOf (z .states) (z .symbols) d)
         → n ≡ numbersHeld (take (r .model .length) (r .model .bytes)) h d
-        → s ≡ statesOf (take (r .model .length) (r .model .bytes)) → g ≡ symbolsOf (take (r .model .length) (r .model .bytes))
-        → v ≡ entriesIn s g → t ≡ isHeld (r .delivery) → m ≡ markBy t v (r .numbers) n
+        → z ≡ sizesOf (take (r .model .length) (r .model .bytes))
+        → v ≡ entriesIn (z .states) (z .symbols) → t ≡ isHeld (r .delivery) → m ≡ markBy t v (r .numbers) n
         → _≡_ {A = Received}
         (record { register = record { model = r .model; delivery = Held.Of h; numbers = n }; outcome = o; mark = m }) (fileDelivery r d)
     unfolding fileDelivery fileOf shapeFor
-    delivery-filed e shape numbers states symbols entries another mark =
-        rw (holds, ← found, not-refused o e, ← states, ← symbols, ← shape, ← numbers, ← entries, ← another, ← mark)
+    delivery-filed e shape numbers same entries another mark =
+        rw (holds, ← found, not-refused o e, ← (rw same at shape), ← numbers, ← (rw same at entries), ← another, ← mark)

@@ -1,6 +1,6 @@
 -- The filings, on any value of a register (document 01, "Filing and questions").
-use Prim.Native.Nat.{ℕ, zero, suc}
-use mathlib.Core.Bool.{Bool, true, cond, _&&_}
+use Prim.Native.Nat.{ℕ}
+use mathlib.Core.Bool.{Bool, cond, _&&_}
 use mathlib.Core.List.{List}
 use lib.Dec.{eqb}
 use lib.IntN.{pos}
@@ -11,20 +11,18 @@ use Rattle.outcome.specs.declared.Outcome.the-variants.{Accepted, Refused}
 use Rattle.model.specs.Records.{statesOf, symbolsOf}
 use Rattle.model.specs.Verdict.{modelVerdict}
 use Rattle.delivery.specs.declared.shape.Shape.{Shape}
-use Rattle.delivery.specs.declared.shape.Shape.the-variants.{U}
-use Rattle.delivery.specs.declared.shape.Shaped.{Shaped}
-use Rattle.delivery.specs.declared.shape.Shaped.the-variants.{Of, Unknown}
 use Rattle.delivery.specs.Shapes.{shapeOf}
+use Rattle.ppda.specs.Sums.{allTo}
 use Rattle.ppda.specs.Order.{entriesIn}
 use Rattle.certificate.specs.Verdict.{verdict}
-use Rattle.register.specs.declared.held.HeldDelivery.the-variants as Held
-use Rattle.register.specs.declared.held.Numbers.{Numbers}
+use Rattle.held.specs.declared.HeldDelivery.the-variants as Held
+use Rattle.held.specs.declared.Numbers.{Numbers}
 use Rattle.register.specs.declared.answer.Mark.{Mark}
 use Rattle.register.specs.declared.answer.Mark.the-variants.{Known, New, Absent}
 use Rattle.register.specs.declared.Register.{Register}
 use Rattle.register.specs.declared.Filed.{Filed}
 use Rattle.register.specs.declared.Received.{Received}
-use Rattle.register.specs.Held.{noModel, noNumbers, modelHeld, numbersHeld, holdsModel, isHeld}
+use Rattle.held.specs.Held.{shapeAs, noModel, noNumbers, modelHeld, numbersHeld, holdsModel, isHeld}
 
 -- A cleared register.
 unfoldable pub cleared : Register
@@ -53,18 +51,9 @@ modelBy (Refused x i k) r b = turnedDown r (Refused x i k)
 unfoldable pub fileModel : Register → List ℕ → Filed
 fileModel r b = modelBy (cond (holdsModel (r .model .length)) (Refused ModelHeld 0 (pos 0)) (modelVerdict b)) r b
 
--- The shape of an accepted delivery, which is never unknown.
-abbrev pub shapeAs : Shaped → Shape
-shapeAs (Of h) = h
-shapeAs Unknown = U
-
+-- The shape of an accepted delivery.
 unfoldable pub shapeFor : List ℕ → List ℕ → Shape
 shapeFor b d = shapeAs (shapeOf (statesOf b) (symbolsOf b) d)
-
--- h holds of 0, 1, …, n − 1.
-unfoldable pub allTo : (ℕ → Bool) → ℕ → Bool
-allTo h zero = true
-allTo h (suc n) = allTo h n && h n
 
 -- Whether two lists have the same first n numbers.
 unfoldable pub sameTo : ℕ → List ℕ → List ℕ → Bool

@@ -1,4 +1,3 @@
--- The register (document 01, "Filing and questions"): what it holds, the filings and the questions on any value of it.
-pub mod Held
+-- The register (document 01, "Filing and questions"): the filings and the questions on any value of it.
 pub mod Filing
 pub mod Questions

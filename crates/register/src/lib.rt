@@ -3,35 +3,32 @@
 use answer::Answer;
 use answer::Mark;
 use answer::answered;
-use delivery::shape::entries;
-use filing::mark_by;
-use filing::model_of;
-use filing::numbers_of;
-use filing::shape_for;
 use held::HeldDelivery;
 use held::HeldModel;
 use held::Numbers;
+use held::filing::model_of;
+use held::filing::numbers_of;
+use held::filing::shape_for;
 use held::holds_model;
 use held::is_held;
 use held::lowers_stand;
 use held::means_stand;
 use held::no_model;
 use held::no_numbers;
-use model::sizes::states;
-use model::sizes::symbols;
+use held::places::entry_value;
+use held::places::has_entry;
+use held::places::has_row;
+use held::places::row_value;
+use held::places::sizes_held;
+use marks::mark_by;
+use model::sizes::sizes_of;
 use outcome::Outcome;
 use outcome::Reason;
 use outcome::is_refused;
 use outcome::refused;
-use places::entry_value;
-use places::has_entry;
-use places::has_row;
-use places::row_value;
 
 pub mod answer; // answer.rt: what the calls answer
-mod filing; // filing.rt: what an accepted file becomes in the register
-pub mod held; // held.rt: what the register holds
-mod places; // places.rt: a held number by its entry or its row
+mod marks; // marks.rt: the mark of an accepted delivery
 
 ghost use mathlib.Core.Path.{_≡_};
 ghost use Rattle.register.specs.Filing.{cleared, turnedDown, fileModel, turnedAway, fileDelivery};
@@ -134,11 +131,10 @@ impl Register {
         if is_refused(verdict) {
             return delivery_refused(self, verdict);
         }
-        let s = states(model);
-        let g = symbols(model);
-        let shape = shape_for(file, s, g);
-        let numbers = numbers_of(model, file, s, g, shape);
-        let mark = mark_by(another, entries(s, g), former, numbers);
+        let n = sizes_of(model);
+        let shape = shape_for(file, n);
+        let numbers = numbers_of(model, file, n, shape);
+        let mark = mark_by(another, n.entries(), former, numbers);
         Received {
             register: Register {
                 model: held,
@@ -154,16 +150,15 @@ impl Register {
     pub fn upper(self, p: usize, z: usize, q: usize) -> Answer
         ensures { λ r. ⌜ r ≡ upperIn self p z q ⌝ }
     {
-        let s = self.model.states;
-        let g = self.model.symbols;
+        let n = sizes_held(self.model.states, self.model.symbols);
         let uppers = self.numbers.uppers;
-        let value = entry_value(&uppers, s, g, p, z, q);
+        let value = entry_value(&uppers, n, p, z, q);
         let length = self.model.length;
         let delivery = self.delivery;
         answered(
             holds_model(length),
             is_held(delivery),
-            has_entry(s, g, p, z, q),
+            has_entry(n, p, z, q),
             true,
             value,
         )
@@ -173,16 +168,15 @@ impl Register {
     pub fn lower(self, p: usize, z: usize, q: usize) -> Answer
         ensures { λ r. ⌜ r ≡ lowerIn self p z q ⌝ }
     {
-        let s = self.model.states;
-        let g = self.model.symbols;
+        let n = sizes_held(self.model.states, self.model.symbols);
         let lowers = self.numbers.lowers;
-        let value = entry_value(&lowers, s, g, p, z, q);
+        let value = entry_value(&lowers, n, p, z, q);
         let length = self.model.length;
         let delivery = self.delivery;
         answered(
             holds_model(length),
             is_held(delivery),
-            has_entry(s, g, p, z, q),
+            has_entry(n, p, z, q),
             lowers_stand(delivery),
             value,
         )
@@ -192,16 +186,15 @@ impl Register {
     pub fn mean_steps(self, p: usize, z: usize) -> Answer
         ensures { λ r. ⌜ r ≡ meanIn self p z ⌝ }
     {
-        let s = self.model.states;
-        let g = self.model.symbols;
+        let n = sizes_held(self.model.states, self.model.symbols);
         let means = self.numbers.means;
-        let value = row_value(&means, s, g, p, z);
+        let value = row_value(&means, n, p, z);
         let length = self.model.length;
         let delivery = self.delivery;
         answered(
             holds_model(length),
             is_held(delivery),
-            has_row(s, g, p, z),
+            has_row(n, p, z),
             means_stand(delivery),
             value,
         )
@@ -227,15 +220,14 @@ impl Register {
     pub fn live(self, p: usize, z: usize, q: usize) -> Answer
         ensures { λ r. ⌜ r ≡ liveIn self p z q ⌝ }
     {
-        let s = self.model.states;
-        let g = self.model.symbols;
+        let n = sizes_held(self.model.states, self.model.symbols);
         let marks = self.model.live;
-        let value = entry_value(&marks, s, g, p, z, q);
+        let value = entry_value(&marks, n, p, z, q);
         let length = self.model.length;
         answered(
             holds_model(length),
             true,
-            has_entry(s, g, p, z, q),
+            has_entry(n, p, z, q),
             true,
             value,
         )

@@ -12,14 +12,17 @@ use Rattle.outcome.specs.declared.Outcome.the-variants.{Accepted}
 use Rattle.outcome.proofs.Tests.{not-refused}
 use Rattle.model.specs.Accepted.{Sized}
 use Rattle.certificate.specs.Verdict.{verdict}
-use Rattle.certificate.proofs.Steps.{few, some-and-few, sized-by-verdict}
-use Rattle.register.specs.Held.{holdsModel}
-use Rattle.register.proofs.Steps.{held-fits, shape-by-verdict, none-is-held, delivery-turned-away, delivery-filed}
+use Rattle.model.specs.Format.{mostBytes}
+use Rattle.model.proofs.Accepted.{sized-fits}
+use Rattle.certificate.proofs.Steps.{sized-by-verdict}
+use Rattle.held.specs.Held.{holdsModel}
+use Rattle.held.proofs.Becomes.{held-fits, shape-by-verdict}
+use Rattle.register.proofs.Steps.{none-is-held, delivery-turned-away, delivery-filed}
 use Rattle.register.proofs.Register.file_delivery.Statement.{statement}
 use Rattle.register.proofs.Register.file_delivery.Tie as tie
 
--- A register's bytes are 10,240: owning it tells so. A held model's file is within them.
-bytes-size : (c : tie.Start) → length (c .args .self .model .bytes) ≡ 10240
+-- A register has as many bytes as the longest file: owning it tells so. A held model's file is within them.
+bytes-size : (c : tie.Start) → length (c .args .self .model .bytes) ≡ mostBytes
 bytes-size c = sym (length-map (c .args .self .model .bytes) (λ v. v)) ∙ c .good .0 .1 .1 .0 .1 .1 .0 .1 .0 .1
 
 holds : (c : tie.Else1) → holdsModel (c .before .before .before .before .args .self .model .length) ≡ true
@@ -35,9 +38,10 @@ accepted c =
     let tested = c .before in
     sym (tested .before .check .ensures) ∙ not-refused _ (sym (tested .is-refused .ensures) ∙ c .if2 .left)
 
-sized : (c : tie.After-symbols) → let args = c .before .before .before .before .before .before .before .before .before .before .before .before .before .args in
-    Sized (take (args .self .model .length) (args .self .model .bytes)) (c .before .states .result) (c .symbols .result)
-sized c = sized-by-verdict _ (accepted (c .before .before)) (c .before .states .ensures .0) (c .symbols .ensures .0)
+sized : (c : tie.After-sizes-of)
+    → let args = c .before .before .before .before .before .before .before .before .before .before .before .before .args in
+    let n = c .sizes-of .result in Sized (take (args .self .model .length) (args .self .model .bytes)) (n .states) (n .symbols)
+sized c = sized-by-verdict _ (accepted (c .before)) (c .sizes-of .ensures .0)
 
 holds-model-requires : tie.Need-holds-model-requires
 holds-model-requires c κs = search needs
@@ -80,23 +84,23 @@ returns-2 c =
     ∙ delivery-turned-away _ _ (holds (found .before .before .before .before .before)) (found .check .ensures)
     (sym (tested .is-refused .ensures) ∙ c .before .if2 .taken)
 
-states-requires : tie.Need-states-requires
-states-requires c κs = search needs
-
-symbols-requires : tie.Need-symbols-requires
-symbols-requires c κs = search needs
+sizes-of-requires : tie.Need-sizes-of-requires
+sizes-of-requires c κs = search needs
 
 shape-for-requires : tie.Need-shape-for-requires
-shape-for-requires c κs = some-and-few (sized c)
+shape-for-requires c κs = sized-fits (sized c)
 
 numbers-of-requires : tie.Need-numbers-of-requires
 numbers-of-requires c κs =
     let sizes = c .before in
-    let is = accepted (sizes .before .before) in
-    (sized sizes, shape-by-verdict _ _ (sizes .before .states .ensures .0) (sizes .symbols .ensures .0) is (c .shape-for .ensures), is)
+    let is = accepted (sizes .before) in
+    record {
+      file = record { sized = sized sizes; of = shape-by-verdict _ _ (sizes .sizes-of .ensures .0) is (c .shape-for .ensures) };
+      accepted = is;
+    }
 
 entries-requires : tie.Need-entries-requires
-entries-requires c κs = few (sized (c .before .before))
+entries-requires c κs = sized-fits (sized (c .before .before))
 
 mark-by-requires : tie.Need-mark-by-requires
 mark-by-requires c κs = search needs
@@ -106,13 +110,13 @@ returns-3 c =
     let entries = c .before in
     let shape = entries .before .before in
     let sizes = shape .before in
-    let branch = sizes .before .before in
+    let branch = sizes .before in
     let tested = branch .before in
     let found = tested .before in
     delivery-filed _ _ (holds (found .before .before .before .before .before)) (found .check .ensures)
     (sym (tested .is-refused .ensures) ∙ branch .if2 .left)
     (shape .shape-for .ensures) (entries .before .numbers-of .ensures)
-    (sizes .before .states .ensures .0) (sizes .symbols .ensures .0) (entries .entries .ensures .0)
+    (sizes .sizes-of .ensures .0) (entries .entries .ensures .0)
     (found .before .before .is-held .ensures) (c .mark-by .ensures)
 
 pub file-delivery-spec : {M : Type 1} → statement M
@@ -130,8 +134,7 @@ file-delivery-spec =
     is-refused-requires
     delivery-refused-requires-2
     returns-2
-    states-requires
-    symbols-requires
+    sizes-of-requires
     shape-for-requires
     numbers-of-requires
     entries-requires

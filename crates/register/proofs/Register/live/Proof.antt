@@ -2,12 +2,16 @@
 use mathlib.Core.Path.{refl, _∙_}
 use borrow.Author.Needs.{needs}
 use Rattle.register.specs.Questions.{liveIn}
+use Rattle.held.proofs.Bounds.{narrow-held, has-entry-held, entry-value-held}
 use Rattle.register.proofs.Answers.{answered-same}
 use Rattle.register.proofs.Register.live.Statement.{statement}
 use Rattle.register.proofs.Register.live.Tie as tie
 
+sizes-held-requires : tie.Need-sizes-held-requires
+sizes-held-requires c κs = search needs
+
 entry-value-requires : tie.Need-entry-value-requires
-entry-value-requires c κs = search needs
+entry-value-requires c κs = let sizes = c .before .before .sizes-held .ensures in narrow-held (sizes .0) (sizes .1) (sizes .2)
 
 holds-model-requires : tie.Need-holds-model-requires
 holds-model-requires c κs = search needs
@@ -21,10 +25,11 @@ answered-requires c κs = search needs
 returns : tie.Need-returns
 unfolding liveIn
 returns c =
+    let sizes = c .before .before .before .before .before .before .sizes-held .ensures in
     c .answered .ensures
-    ∙ answered-same (c .before .before .holds-model .ensures) refl (c .before .has-entry .ensures) refl (c .before .before .before .entry-value .ensures)
+    ∙ answered-same (c .before .before .holds-model .ensures) refl (has-entry-held (sizes .0) (sizes .1) _ _ _ (c .before .has-entry .ensures)) refl (entry-value-held (sizes .0) (sizes .1) _ _ _ _ (c .before .before .before .entry-value .ensures))
 
 pub live-spec : {M : Type 1} → statement M
 live-spec =
     tie.close
-    (tie.spec entry-value-requires holds-model-requires has-entry-requires answered-requires returns)
+    (tie.spec sizes-held-requires entry-value-requires holds-model-requires has-entry-requires answered-requires returns)

@@ -2,12 +2,16 @@
 use mathlib.Core.Path.{_∙_}
 use borrow.Author.Needs.{needs}
 use Rattle.register.specs.Questions.{lowerIn}
+use Rattle.held.proofs.Bounds.{narrow-held, has-entry-held, entry-value-held}
 use Rattle.register.proofs.Answers.{answered-same}
 use Rattle.register.proofs.Register.lower.Statement.{statement}
 use Rattle.register.proofs.Register.lower.Tie as tie
 
+sizes-held-requires : tie.Need-sizes-held-requires
+sizes-held-requires c κs = search needs
+
 entry-value-requires : tie.Need-entry-value-requires
-entry-value-requires c κs = search needs
+entry-value-requires c κs = let sizes = c .before .before .sizes-held .ensures in narrow-held (sizes .0) (sizes .1) (sizes .2)
 
 holds-model-requires : tie.Need-holds-model-requires
 holds-model-requires c κs = search needs
@@ -27,14 +31,15 @@ answered-requires c κs = search needs
 returns : tie.Need-returns
 unfolding lowerIn
 returns c =
+    let sizes = c .before .before .before .before .before .before .before .before .sizes-held .ensures in
     c .answered .ensures
-    ∙ answered-same (c .before .before .before .before .holds-model .ensures) (c .before .before .before .is-held .ensures) (c .before .before .has-entry .ensures) (c .before .lowers-stand .ensures) (c .before .before .before .before .before .entry-value .ensures)
+    ∙ answered-same (c .before .before .before .before .holds-model .ensures) (c .before .before .before .is-held .ensures) (has-entry-held (sizes .0) (sizes .1) _ _ _ (c .before .before .has-entry .ensures)) (c .before .lowers-stand .ensures) (entry-value-held (sizes .0) (sizes .1) _ _ _ _ (c .before .before .before .before .before .entry-value .ensures))
 
 pub lower-spec : {M : Type 1} → statement M
 lower-spec =
     tie.close
     (tie.spec
-    entry-value-requires
+    sizes-held-requires entry-value-requires
     holds-model-requires
     is-held-requires
     has-entry-requires

@@ -2,12 +2,16 @@
 use mathlib.Core.Path.{_∙_}
 use borrow.Author.Needs.{needs}
 use Rattle.register.specs.Questions.{meanIn}
+use Rattle.held.proofs.Bounds.{narrow-held, has-row-held, row-value-held}
 use Rattle.register.proofs.Answers.{answered-same}
 use Rattle.register.proofs.Register.mean_steps.Statement.{statement}
 use Rattle.register.proofs.Register.mean_steps.Tie as tie
 
+sizes-held-requires : tie.Need-sizes-held-requires
+sizes-held-requires c κs = search needs
+
 row-value-requires : tie.Need-row-value-requires
-row-value-requires c κs = search needs
+row-value-requires c κs = let sizes = c .before .before .sizes-held .ensures in narrow-held (sizes .0) (sizes .1) (sizes .2)
 
 holds-model-requires : tie.Need-holds-model-requires
 holds-model-requires c κs = search needs
@@ -27,14 +31,15 @@ answered-requires c κs = search needs
 returns : tie.Need-returns
 unfolding meanIn
 returns c =
+    let sizes = c .before .before .before .before .before .before .before .before .sizes-held .ensures in
     c .answered .ensures
-    ∙ answered-same (c .before .before .before .before .holds-model .ensures) (c .before .before .before .is-held .ensures) (c .before .before .has-row .ensures) (c .before .means-stand .ensures) (c .before .before .before .before .before .row-value .ensures)
+    ∙ answered-same (c .before .before .before .before .holds-model .ensures) (c .before .before .before .is-held .ensures) (has-row-held (sizes .0) (sizes .1) _ _ (c .before .before .has-row .ensures)) (c .before .means-stand .ensures) (row-value-held (sizes .0) (sizes .1) _ _ _ (c .before .before .before .before .before .row-value .ensures))
 
 pub mean-steps-spec : {M : Type 1} → statement M
 mean-steps-spec =
     tie.close
     (tie.spec
-    row-value-requires
+    sizes-held-requires row-value-requires
     holds-model-requires
     is-held-requires
     has-row-requires
