@@ -12,6 +12,7 @@ use lib.IntN.{ℤ}
 use borrow.Author.Tests.{lt-ltb}
 use Rattle.outcome.specs.declared.Outcome.the-variants.{Accepted}
 use Rattle.outcome.proofs.Exactly.{lt-exactly, both}
+use Rattle.ppda.specs.Units.{weightUnit, chanceUnit, stepUnit}
 use Rattle.ppda.specs.Bounds.{stepsOf}
 use Rattle.ppda.specs.Chances.{chance, mean}
 use Rattle.ppda.proofs.Marks.{alive-is-bit}
@@ -93,7 +94,7 @@ files-asked cs h e =
 
 module _ {cs : List Call} {b d : List ℕ} (files : Files cs b d) where
   upper-of : (p z q u : ℕ) → atEntry b p z q (value (uppersOf (statesOf b) (symbolsOf b) d p z q)) ≡ value u
-      → (n : ℕ) → chance (rulesOf b) n p z q * 2 ^ 20 ≤ u * 65536 ^ n
+      → (n : ℕ) → chance (rulesOf b) n p z q * chanceUnit ≤ u * weightUnit ^ n
   upper-of p z q u e n =
       let (hp, hz, hq, reply) = entry-asked (statesOf b) (symbolsOf b) p z q (value (uppersOf (statesOf b) (symbolsOf b) d p z q)) e in
       let same : uppersOf (statesOf b) (symbolsOf b) d p z q ≡ u = cc in
@@ -127,7 +128,7 @@ module _ {cs : List Call} {b d : List ℕ} (files : Files cs b d) where
         holds-above-zero = λ k. rw same at (lower-of-shape b d h (files .accepted) shape has k p z q hp hz hq);
       }
 
-  mean-of : (p z r : ℕ) → atRow b p z (meanReply b d p z) ≡ value r → (n : ℕ) → mean (rulesOf b) n p z * 2 ^ 8 ≤ r * 65536 ^ n
+  mean-of : (p z r : ℕ) → atRow b p z (meanReply b d p z) ≡ value r → (n : ℕ) → mean (rulesOf b) n p z * stepUnit ≤ r * weightUnit ^ n
   mean-of p z r e n =
       let (hp, hz, inner) = row-asked (statesOf b) (symbolsOf b) p z (meanReply b d p z) e in
       let (h, shape, has, reply) = block-asked hasMeans (shapeOf (statesOf b) (symbolsOf b) d) _ inner in

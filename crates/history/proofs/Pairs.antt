@@ -12,28 +12,31 @@ use Rattle.outcome.specs.declared.Outcome.{Outcome}
 use Rattle.outcome.specs.declared.Outcome.the-variants.{Accepted, Refused}
 use Rattle.outcome.proofs.Exactly.{lt-exactly, le-exactly, eq-exactly, both}
 use Rattle.ppda.specs.Equations.{Vector, RowVector, entries, rows, SameRows, Same}
+use Rattle.ppda.specs.Order.{entriesIn}
+use Rattle.ppda.proofs.Sums.{all-exactly}
 use Rattle.model.specs.Records.{statesOf, symbolsOf}
+use Rattle.model.specs.Format.{mostBytes}
 use Rattle.model.specs.Verdict.{modelVerdict}
-use Rattle.model.proofs.Accepted.{model-accepted, sized-of}
-use Rattle.delivery.specs.Records.{byteOf, valueAt}
+use Rattle.model.proofs.Accepted.{model-accepted, sized-of, sized-fits}
+use Rattle.delivery.specs.Records.{kindAt, stateAt, symbolAt, exitAt, valueAt}
 use Rattle.delivery.specs.declared.shape.Shaped.the-variants.{Of}
 use Rattle.delivery.specs.Shapes.{hasLowers, hasMeans, shapeOf}
-use Rattle.ppda.specs.Order.{entriesIn}
 use Rattle.delivery.specs.Numbers.{uppersOf, lowersOf, meansOf}
 use Rattle.model.specs.Accepted.{Sized}
 use Rattle.live.specs.Shown.{liveMark}
-use Rattle.rows.proofs.Ranges.{few-rows, few-entries}
 use Rattle.certificate.specs.Accepted.{Filed}
 use Rattle.certificate.specs.Margin.{marginOf}
 use Rattle.certificate.specs.Verdict.{verdict}
 use Rattle.certificate.proofs.Accepted.{delivery-accepted}
 use Rattle.certificate.proofs.Rest.{at-numbers}
 use Rattle.register.specs.declared.answer.Mark.the-variants.{Known, New}
-use Rattle.register.specs.Held.{listed, listedRows, noModel, modelHeld, numbersHeld, holdsModel}
+use Rattle.held.specs.Held.{shapeAs, listed, listedRows, noModel, modelHeld, numbersHeld, holdsModel}
+use Rattle.held.specs.Places.{hasRow, hasEntry, rowValue, entryValue}
+use Rattle.held.proofs.Listed.{listed-at, rows-at, filled-back}
 use Rattle.register.specs.Filing as Filing
 use Rattle.register.specs.Filing.{fileOf, withModel, modelBy, deliveryBy, received, shapeFor, sameTo, markBy}
-use Rattle.register.specs.Questions.{answered, hasRow, hasEntry, rowValue, entryValue, upperIn, lowerIn, meanIn, marginIn, liveIn}
-use Rattle.register.proofs.Lists.{listed-at, rows-at, filled-back, all-exactly, same-found}
+use Rattle.register.specs.Questions.{answered, upperIn, lowerIn, meanIn, marginIn, liveIn}
+use Rattle.register.proofs.Steps.{same-found}
 use Rattle.history.specs.Calls.{Call, clear, fileModel, fileDelivery, upper, lower, meanSteps, margin, live, Reply, accepted, known, new, value, refusal, taken}
 use Rattle.history.specs.Plain.{Pair, ofModel, ofDelivery, ifNone, atRow, atEntry, ofBlock, byVerdict, sameRecord, sameUppers, markOf, modelAfter, deliveryAfter, plain}
 use Rattle.history.specs.Run.{modelReply, markReply, deliveryReply, answerReply, after, replyOf, holding, registerOf}
@@ -92,13 +95,13 @@ module _ (b : List ℕ) (is : modelVerdict b ≡ Accepted) where
   unfolding holdsModel
   held-length =
       let records = size .file .records in
-      both _ _ (lt-exactly 0 (length b)) (le-exactly (length b) 10240) .1 (omega (arith, records .some, records .most, records .whole))
+      both _ _ (lt-exactly 0 (length b)) (le-exactly (length b) mostBytes) .1 (omega (arith, records .some, records .most, records .whole))
 
   listed-same : (v : Vector) → Same (statesOf b) (symbolsOf b) (entries (statesOf b) (symbolsOf b) (listed (statesOf b) (symbolsOf b) v)) v
-  listed-same v p z q hp hz hq = listed-at (statesOf b) (symbolsOf b) v p z q hp hz hq (few-entries size)
+  listed-same v p z q hp hz hq = listed-at (statesOf b) (symbolsOf b) v p z q hp hz hq (sized-fits size .few-entries)
 
   rows-same : (v : RowVector) → SameRows (statesOf b) (symbolsOf b) (rows (symbolsOf b) (listedRows (statesOf b) (symbolsOf b) v)) v
-  rows-same v p z hp hz = rows-at (statesOf b) (symbolsOf b) v p z hp hz (omega (arith, few-rows size))
+  rows-same v p z hp hz = rows-at (statesOf b) (symbolsOf b) v p z hp hz (omega (arith, sized-fits size .few-rows))
 
 -- The model b of a right pair with the delivery y, if any, is accepted, and it is what the register holds.
 pub model-right : (b : List ℕ) (y : Option (List ℕ)) → Right (some b) y → modelVerdict b ≡ Accepted
@@ -119,7 +122,7 @@ module _ (b : List ℕ) (y : Option (List ℕ)) (right : Right (some b) y) where
   unfolding fileOf modelHeld
   file-held =
       let records = size b (model-right b y right) .file .records in
-      rw (model-of-pair b y) (filled-back 10240 b (omega (arith, records .most, records .whole)))
+      rw (model-of-pair b y) (filled-back mostBytes b (omega (arith, records .most, records .whole)))
 
   delivery-by-verdict : (d : List ℕ) → Filing.fileDelivery (holding (some b) y) d ≡ deliveryBy (verdict b d) (holding (some b) y) b d
   unfolding Filing.fileDelivery

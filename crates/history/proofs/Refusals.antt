@@ -15,7 +15,7 @@ use Rattle.register.specs.declared.answer.Mark.{Mark}
 use Rattle.register.specs.declared.answer.Mark.the-variants.{Known, New, Absent}
 use Rattle.register.specs.Filing as Filing
 use Rattle.register.specs.Filing.{fileOf, modelBy, deliveryBy}
-use Rattle.register.specs.Held.{holdsModel}
+use Rattle.held.specs.Held.{holdsModel}
 use Rattle.history.specs.Calls.{Call, clear, fileModel, fileDelivery, upper, lower, meanSteps, margin, live, refused}
 use Rattle.history.specs.Run.{modelReply, markReply, deliveryReply, after, replyOf}
 use Rattle.history.specs.Mission.{RefusedKeeps}

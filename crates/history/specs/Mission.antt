@@ -6,8 +6,9 @@ use mathlib.Core.Logic.{_↔_, _⊎_}
 use mathlib.Core.Option.{none, some}
 use mathlib.Core.Path.{_≡_}
 use lib.IntN.{ℤ}
+use Rattle.ppda.specs.Units.{weightUnit, chanceUnit, stepUnit}
 use Rattle.ppda.specs.Chances.{chance, mean}
-use Rattle.ppda.specs.Live.{Live}
+use Rattle.ppda.specs.Live.{isLive, Live}
 use Rattle.ppda.specs.Margin.{whole, kept}
 use Rattle.model.specs.Rules.{rulesOf}
 use Rattle.model.specs.Accepted.{ModelFile}
@@ -49,7 +50,7 @@ DeliveryTaken cs = (d : List ℕ) → (taken (replyTo cs (fileDelivery d)) ≡ t
 abbrev pub UpperShown : List Call → Type 0
 UpperShown cs =
     (p z q u : ℕ) → replyTo cs (upper p z q) ≡ value u
-    → (b : List ℕ) × Holds cs b × ((n : ℕ) → chance (rulesOf b) n p z q * 2 ^ 20 ≤ u * 65536 ^ n)
+    → (b : List ℕ) × Holds cs b × ((n : ℕ) → chance (rulesOf b) n p z q * chanceUnit ≤ u * weightUnit ^ n)
 
 -- "Every chance within 2^k − 1 steps is at least the lower less (1 − m)^k times the upper", with the upper u and the margin m that the
 -- questions on them answer.
@@ -61,12 +62,14 @@ pub record LowerHeld (cs : List Call) (p z q l : ℕ) : Type 0 where
   pub upper-asked : replyTo cs (upper p z q) ≡ value upper-shown
   pub margin-asked : replyTo cs margin ≡ value margin-shown
   pub holds : (k : ℕ)
-      → l * 65536 ^ (2 ^ k - 1) * (2 ^ 20) ^ k
-      ≤ chance (rulesOf model) (2 ^ k - 1) p z q * 2 ^ 20 * (2 ^ 20) ^ k + (2 ^ 20 - margin-shown) ^ k * upper-shown * 65536 ^ (2 ^ k - 1)
+      → l * weightUnit ^ (2 ^ k - 1) * chanceUnit ^ k
+      ≤ chance (rulesOf model) (2 ^ k - 1) p z q * chanceUnit * chanceUnit ^ k
+      + (chanceUnit - margin-shown) ^ k * upper-shown * weightUnit ^ (2 ^ k - 1)
   -- The same with an m that is never 0: the margin shown, or 1/2^57 where that is 0 (crate ppda, `kept`, `whole`).
   pub holds-above-zero : (k : ℕ)
-      → l * 65536 ^ (2 ^ k - 1) * whole margin-shown ^ k
-      ≤ chance (rulesOf model) (2 ^ k - 1) p z q * 2 ^ 20 * whole margin-shown ^ k + kept margin-shown ^ k * upper-shown * 65536 ^ (2 ^ k - 1)
+      → l * weightUnit ^ (2 ^ k - 1) * whole margin-shown ^ k
+      ≤ chance (rulesOf model) (2 ^ k - 1) p z q * chanceUnit * whole margin-shown ^ k
+      + kept margin-shown ^ k * upper-shown * weightUnit ^ (2 ^ k - 1)
 
 abbrev pub LowerShown : List Call → Type 0
 LowerShown cs = (p z q l : ℕ) → replyTo cs (lower p z q) ≡ value l → LowerHeld cs p z q l
@@ -75,13 +78,13 @@ LowerShown cs = (p z q l : ℕ) → replyTo cs (lower p z q) ≡ value l → Low
 abbrev pub MeanShown : List Call → Type 0
 MeanShown cs =
     (p z r : ℕ) → replyTo cs (meanSteps p z) ≡ value r
-    → (b : List ℕ) × Holds cs b × ((n : ℕ) → mean (rulesOf b) n p z * 2 ^ 8 ≤ r * 65536 ^ n)
+    → (b : List ℕ) × Holds cs b × ((n : ℕ) → mean (rulesOf b) n p z * stepUnit ≤ r * weightUnit ^ n)
 
--- The live mark is 1 where some run empties the stack in q, and else 0.
+-- The live mark says live where some run empties the stack in q; it is 1 or 0.
 abbrev pub LiveShown : List Call → Type 0
 LiveShown cs =
     (p z q a : ℕ) → replyTo cs (live p z q) ≡ value a
-    → (b : List ℕ) × Holds cs b × ((a ≡ 1) ↔ Live (rulesOf b) p z q) × (a ≤ 1)
+    → (b : List ℕ) × Holds cs b × ((isLive a ≡ true) ↔ Live (rulesOf b) p z q) × (a ≤ 1)
 
 -- "A question on live marks can get 40 and 44 only."
 abbrev pub LiveRefused : List Call → Type 0
