@@ -1,10 +1,7 @@
--- The report: laws of text in a buffer, of counts, of a register's answers, of numbers in decimal and signed numbers, and of the self-test.
-pub mod Puts
+-- The report: laws of counts, of a register's answers, of u − f(u), of what is printed and of the self-test.
 pub mod Counts
 pub mod Asked
-pub mod Gaps
+pub mod Differences
 pub mod Printed
-pub mod Decimals
-pub mod Signs
 pub mod SelfTest
 pub mod Edges

@@ -1,5 +1,4 @@
--- What the program prints: numbers in decimal, the lines, and a table of lines byte by byte. `Walks` serves the contracts of the code alone.
-pub mod Decimal
+-- What the program prints: the lines, and a table of lines byte by byte. `Walks` serves the contracts of the code alone.
 pub mod Lines
 pub mod Edges
 pub mod Walks

@@ -1,5 +1,5 @@
 -- What the program prints (document 01, "Model W, and what the program prints"), from the replies of a register in which the two files were filed.
-use Prim.Native.Nat.{ℕ, zero, suc, _-_, _*_, _^_}
+use Prim.Native.Nat.{ℕ, _-_, _*_, _/_, _%_, _^_}
 use mathlib.Core.Bool.{Bool, false, cond}
 use mathlib.Core.List.{List, [], _∷_, _++_}
 use lib.Dec.{eqb}
@@ -11,14 +11,10 @@ use Rattle.model.specs.Rules.{rulesOf}
 use Rattle.delivery.specs.Numbers.{uppersOf}
 use Rattle.history.specs.Calls.{Call, fileModel, fileDelivery, upper, lower, meanSteps, margin, live, Reply, cleared, accepted, known, new, value, refused}
 use Rattle.history.specs.Run.{replyTo}
-use Rattle.report.specs.Decimal.{decimal, signed}
+use Rattle.text.specs.Decimal.{decimal, signed}
+use Rattle.text.specs.Texts.{fields, joinTo}
 
 -- ---- lines
-
--- The fields of a line, each after a space (32), and the line's end (10).
-abbrev pub fields : List (List ℕ) → List ℕ
-fields [] = 10 ∷ []
-fields (x ∷ xs) = 32 ∷ (x ++ fields xs)
 
 -- What a field shows of a reply: its number, or `-` where the register has no number to show.
 abbrev pub shown : Reply → List ℕ
@@ -29,35 +25,51 @@ shown known = 45 ∷ []
 shown new = 45 ∷ []
 shown (refused n i k) = 45 ∷ []
 
--- "table": states, symbols, records, live entries.
+-- The words that lines begin with: "table", "margin", "chance", "steps", "refused".
+abbrev pub tableWord : List ℕ
+tableWord = 116 ∷ 97 ∷ 98 ∷ 108 ∷ 101 ∷ []
+
+abbrev pub marginWord : List ℕ
+marginWord = 109 ∷ 97 ∷ 114 ∷ 103 ∷ 105 ∷ 110 ∷ []
+
+abbrev pub chanceWord : List ℕ
+chanceWord = 99 ∷ 104 ∷ 97 ∷ 110 ∷ 99 ∷ 101 ∷ []
+
+abbrev pub stepsWord : List ℕ
+stepsWord = 115 ∷ 116 ∷ 101 ∷ 112 ∷ 115 ∷ []
+
+abbrev pub refusedWord : List ℕ
+refusedWord = 114 ∷ 101 ∷ 102 ∷ 117 ∷ 115 ∷ 101 ∷ 100 ∷ []
+
+-- States, symbols, records, live entries.
 abbrev pub tableLine : ℕ → ℕ → ℕ → ℕ → List ℕ
-tableLine s g n alive =
-    116 ∷ 97 ∷ 98 ∷ 108 ∷ 101 ∷ fields (decimal s ∷ decimal g ∷ decimal n ∷ decimal alive ∷ [])
+tableLine s g n alive = tableWord ++ fields (decimal s ∷ decimal g ∷ decimal n ∷ decimal alive ∷ [])
 
--- "margin": the margin.
+-- The margin.
 abbrev pub marginLine : Reply → List ℕ
-marginLine m = 109 ∷ 97 ∷ 114 ∷ 103 ∷ 105 ∷ 110 ∷ fields (shown m ∷ [])
+marginLine m = marginWord ++ fields (shown m ∷ [])
 
--- "chance": p, Z, q, the lower, the upper, and u − f(u).
+-- p, Z, q, the lower, the upper, and u − f(u).
 abbrev pub chanceLine : ℕ → ℕ → ℕ → Reply → Reply → ℕ → List ℕ
-chanceLine p z q l u gap =
-    99 ∷ 104 ∷ 97 ∷ 110 ∷ 99 ∷ 101
-    ∷ fields (decimal p ∷ decimal z ∷ decimal q ∷ shown l ∷ shown u ∷ decimal gap ∷ [])
+chanceLine p z q l u gap = chanceWord ++ fields (decimal p ∷ decimal z ∷ decimal q ∷ shown l ∷ shown u ∷ decimal gap ∷ [])
 
--- "steps": p, Z and the mean steps.
+-- p, Z and the mean steps.
 abbrev pub stepsLine : ℕ → ℕ → ℕ → List ℕ
-stepsLine p z r = 115 ∷ 116 ∷ 101 ∷ 112 ∷ 115 ∷ fields (decimal p ∷ decimal z ∷ decimal r ∷ [])
+stepsLine p z r = stepsWord ++ fields (decimal p ∷ decimal z ∷ decimal r ∷ [])
 
--- "refused": number, place, shortfall.
+-- Number, place, shortfall.
 abbrev pub refusedLine : ℕ → ℕ → ℤ → List ℕ
-refusedLine n i k = 114 ∷ 101 ∷ 102 ∷ 117 ∷ 115 ∷ 101 ∷ 100 ∷ fields (decimal n ∷ decimal i ∷ signed k ∷ [])
+refusedLine n i k = refusedWord ++ fields (decimal n ∷ decimal i ∷ signed k ∷ [])
 
 -- ---- what is printed of accepted files
 
--- The texts h 0, h 1, …, h (n − 1), one after the other.
-unfoldable pub joinTo : (ℕ → List ℕ) → ℕ → List ℕ
-joinTo h zero = []
-joinTo h (suc n) = joinTo h n ++ h n
+-- What h says of row number k of a model with g symbols, which is (k / g, k % g): rows ascend in the order of p and Z.
+abbrev pub byRow : {A : Type 0} → ℕ → (ℕ → ℕ → A) → ℕ → A
+byRow g h k = h (k / g) (k % g)
+
+-- What h says of entry number e of a model with s states, which is exit e % s of row number e / s: entries ascend in the order of p, Z and q.
+abbrev pub byEntry : {A : Type 0} → ℕ → ℕ → (ℕ → ℕ → ℕ → A) → ℕ → A
+byEntry s g h e = byRow g h (e / s) (e % s)
 
 -- Whether the reply to a question on a live mark says that the entry is live.
 abbrev pub isLive : Reply → Bool
@@ -68,23 +80,24 @@ isLive known = false
 isLive new = false
 isLive (refused n i k) = false
 
--- How many entries are live, by the replies that `ask` gives: at an entry, of a row, of a state, of the model.
+-- Whether an entry is live, as a number, and how many entries are, by the replies that `ask` gives.
 abbrev pub liveAt : (Call → Reply) → ℕ → ℕ → ℕ → ℕ
 liveAt ask p z q = bit (isLive (ask (live p z q)))
 
-unfoldable pub liveOfRow : (Call → Reply) → ℕ → ℕ → ℕ → ℕ
-liveOfRow ask s p z = sumTo (liveAt ask p z) s
-
-unfoldable pub liveOfState : (Call → Reply) → ℕ → ℕ → ℕ → ℕ
-liveOfState ask s g p = sumTo (liveOfRow ask s p) g
-
 unfoldable pub liveEntries : (Call → Reply) → ℕ → ℕ → ℕ
-liveEntries ask s g = sumTo (liveOfState ask s g) s
+liveEntries ask s g = sumTo (byEntry s g (liveAt ask)) (s * g * s)
 
--- The line of an entry, if it is live.
-unfoldable pub chanceAt : (Call → Reply) → Vector → ℕ → ℕ → ℕ → List ℕ
-chanceAt ask gap p z q =
-    cond (isLive (ask (live p z q))) (chanceLine p z q (ask (lower p z q)) (ask (upper p z q)) (gap p z q)) []
+-- The line of an entry with the given u − f(u), if it is live.
+unfoldable pub chanceOf : (Call → Reply) → ℕ → ℕ → ℕ → ℕ → List ℕ
+chanceOf ask p z q gap =
+    cond (isLive (ask (live p z q))) (chanceLine p z q (ask (lower p z q)) (ask (upper p z q)) gap) []
+
+abbrev pub chanceAt : (Call → Reply) → Vector → ℕ → ℕ → ℕ → List ℕ
+chanceAt ask gap p z q = chanceOf ask p z q (gap p z q)
+
+-- The lines of the live entries, in file order.
+unfoldable pub chanceLines : (Call → Reply) → Vector → ℕ → ℕ → List ℕ
+chanceLines ask gap s g = joinTo (byEntry s g (chanceAt ask gap)) (s * g * s)
 
 -- The line of a row, if there are mean steps.
 abbrev pub stepsBy : ℕ → ℕ → Reply → List ℕ
@@ -95,25 +108,12 @@ stepsBy p z known = []
 stepsBy p z new = []
 stepsBy p z (refused n i k) = []
 
--- The lines of the entries in file order: of a row, of a state, of the model.
-unfoldable pub chancesOfRow : (Call → Reply) → Vector → ℕ → ℕ → ℕ → List ℕ
-chancesOfRow ask gap s p z = joinTo (chanceAt ask gap p z) s
-
-unfoldable pub chancesOfState : (Call → Reply) → Vector → ℕ → ℕ → ℕ → List ℕ
-chancesOfState ask gap s g p = joinTo (chancesOfRow ask gap s p) g
-
-unfoldable pub chanceLines : (Call → Reply) → Vector → ℕ → ℕ → List ℕ
-chanceLines ask gap s g = joinTo (chancesOfState ask gap s g) s
-
--- The lines of the rows in file order: at a row, of a state, of the model.
 abbrev pub stepsAt : (Call → Reply) → ℕ → ℕ → List ℕ
 stepsAt ask p z = stepsBy p z (ask (meanSteps p z))
 
-unfoldable pub stepsOfState : (Call → Reply) → ℕ → ℕ → List ℕ
-stepsOfState ask g p = joinTo (stepsAt ask p) g
-
+-- The lines of the rows, in file order.
 unfoldable pub stepsLines : (Call → Reply) → ℕ → ℕ → List ℕ
-stepsLines ask s g = joinTo (stepsOfState ask g) s
+stepsLines ask s g = joinTo (byRow g (stepsAt ask)) (s * g)
 
 -- u − f(u) in 1/2^56, for the uppers u of the delivery d for the model b.
 unfoldable pub gapOf : List ℕ → List ℕ → Vector
@@ -121,13 +121,14 @@ gapOf b d p z q =
     uppersOf (statesOf b) (symbolsOf b) d p z q * 2 ^ 36
     - f (rulesOf b) (statesOf b) (2 ^ 20) (uppersOf (statesOf b) (symbolsOf b) d) p z q
 
+-- All lines of a model with s states, g symbols and n records, with u − f(u) by `gap`.
+unfoldable pub linesBy : (Call → Reply) → ℕ → Vector → ℕ → ℕ → List ℕ
+linesBy ask n gap s g =
+    tableLine s g n (liveEntries ask s g) ++ (marginLine (ask margin) ++ (chanceLines ask gap s g ++ stepsLines ask s g))
+
 -- All lines of accepted files.
-unfoldable pub acceptedLines : (Call → Reply) → List ℕ → List ℕ → List ℕ
-acceptedLines ask b d =
-    tableLine (statesOf b) (symbolsOf b) (recordsOf b) (liveEntries ask (statesOf b) (symbolsOf b))
-    ++ (marginLine (ask margin)
-    ++ (chanceLines ask (gapOf b d) (statesOf b) (symbolsOf b)
-    ++ stepsLines ask (statesOf b) (symbolsOf b)))
+abbrev pub acceptedLines : (Call → Reply) → List ℕ → List ℕ → List ℕ
+acceptedLines ask b d = linesBy ask (recordsOf b) (gapOf b d) (statesOf b) (symbolsOf b)
 
 -- ---- what is printed
 

@@ -1,101 +1,128 @@
 // The lines of a report, each put at `at`.
 
-use super::ROOM;
-use super::text::put;
-use super::text::put_answer;
-use super::text::put_field;
-use super::text::put_signed;
 use register::answer::Answer;
+use text::put;
+use text::put_byte;
+use text::put_field;
+use text::put_fields;
+use text::put_signed;
 ghost use mathlib.Core.Path.{_≡_};
+ghost use mathlib.Core.List.{_∷_};
 ghost use Prim.Native.Nat.{_+_, _≤_};
 ghost use lib.ListN.{length};
+ghost use Rattle.text.specs.Walks.{Put};
 ghost use Rattle.history.specs.Run.{answerReply};
-ghost use Rattle.report.specs.Walks.{room, Put};
-ghost use Rattle.report.specs.Lines.{tableLine, marginLine, chanceLine, stepsBy, refusedLine};
+ghost use Rattle.report.specs.Walks.{tableRoom, marginRoom, refusedRoom, chanceRoom, stepsRoom, chanceText};
+ghost use Rattle.report.specs.Lines.{shown, tableLine, marginLine, stepsBy, refusedLine};
+
+// The most bytes of a line: its word, its fields, each a space and at most 20 digits, and its end.
+pub(crate) const TABLE_ROOM: usize = 5 + 4 * 21 + 1;
+
+pub(crate) const MARGIN_ROOM: usize = 6 + 21 + 1;
+
+pub(crate) const CHANCE_ROOM: usize = 6 + 6 * 21 + 1;
+
+pub(crate) const STEPS_ROOM: usize = 5 + 3 * 21 + 1;
+
+// What a register answers on an entry, and its u − f(u).
+pub(crate) struct Chance {
+    pub(crate) p: usize,
+    pub(crate) z: usize,
+    pub(crate) q: usize,
+    pub(crate) live: bool,
+    pub(crate) lower: Answer,
+    pub(crate) upper: Answer,
+    pub(crate) gap: u64,
+}
+
+// Puts a space and the number of an answer, or `-` for a refusal.
+fn put_answer(out: &mut [u8], at: usize, answer: Answer) -> usize
+    requires { ⌜ at + 21 ≤ length (now out) ⌝ }
+    ensures { λ r. ⌜ Put (now (out .entry)) (now (out .exit)) at r (32 ∷ shown (answerReply answer)) × (r ≤ at + 21) ⌝ }
+{
+    match answer {
+        Answer::Value(n) => put_field(out, at, n),
+        Answer::Refused { .. } => put(out, at, b" -"),
+    }
+}
 
 // The sizes of a model: states, symbols, records and live entries.
 pub(crate) fn put_table(
-    out: &mut [u8; ROOM],
+    out: &mut [u8],
     at: usize,
     s: usize,
     g: usize,
     n: usize,
     alive: usize,
 ) -> usize
-    requires { ⌜ (length (now out) ≡ room) × (at + 100 ≤ room) ⌝ }
-    ensures { λ r. ⌜ Put (now (out .entry)) (now (out .exit)) at r (tableLine s g n alive) × (r ≤ at + 100) ⌝ }
+    requires { ⌜ at + tableRoom ≤ length (now out) ⌝ }
+    ensures { λ r. ⌜ Put (now (out .entry)) (now (out .exit)) at r (tableLine s g n alive) × (r ≤ at + tableRoom) ⌝ }
 {
-    let at = put(out, at, b"table");
-    let at = put_field(out, at, s as u64);
-    let at = put_field(out, at, g as u64);
-    let at = put_field(out, at, n as u64);
-    let at = put_field(out, at, alive as u64);
-    put(out, at, b"\n")
+    let at = put_fields(
+        out,
+        at,
+        b"table",
+        &[s as u64, g as u64, n as u64, alive as u64],
+    );
+    put_byte(out, at, b'\n')
 }
 
 // The margin.
-pub(crate) fn put_margin(out: &mut [u8; ROOM], at: usize, margin: Answer) -> usize
-    requires { ⌜ (length (now out) ≡ room) × (at + 28 ≤ room) ⌝ }
-    ensures { λ r. ⌜ Put (now (out .entry)) (now (out .exit)) at r (marginLine (answerReply margin)) × (r ≤ at + 28) ⌝ }
+pub(crate) fn put_margin(out: &mut [u8], at: usize, margin: Answer) -> usize
+    requires { ⌜ at + marginRoom ≤ length (now out) ⌝ }
+    ensures { λ r. ⌜ Put (now (out .entry)) (now (out .exit)) at r (marginLine (answerReply margin)) × (r ≤ at + marginRoom) ⌝ }
 {
     let at = put(out, at, b"margin");
     let at = put_answer(out, at, margin);
-    put(out, at, b"\n")
+    put_byte(out, at, b'\n')
 }
 
 // A refusal.
 pub(crate) fn put_refused(
-    out: &mut [u8; ROOM],
+    out: &mut [u8],
     at: usize,
     number: u32,
     place: usize,
     shortfall: i64,
 ) -> usize
-    requires { ⌜ (length (now out) ≡ room) × (at + 72 ≤ room) ⌝ }
-    ensures { λ r. ⌜ Put (now (out .entry)) (now (out .exit)) at r (refusedLine number place shortfall) × (r ≤ at + 72) ⌝ }
+    requires { ⌜ at + refusedRoom ≤ length (now out) ⌝ }
+    ensures { λ r. ⌜ Put (now (out .entry)) (now (out .exit)) at r (refusedLine number place shortfall) × (r ≤ at + refusedRoom) ⌝ }
 {
-    let at = put(out, at, b"refused");
-    let at = put_field(out, at, number as u64);
-    let at = put_field(out, at, place as u64);
+    let at = put_fields(out, at, b"refused", &[number as u64, place as u64]);
     let at = put_signed(out, at, shortfall);
-    put(out, at, b"\n")
+    put_byte(out, at, b'\n')
 }
 
-// The line of a live entry: its lower, its upper and u − f(u).
-pub(crate) fn put_chance(
-    out: &mut [u8; ROOM],
-    at: usize,
-    p: usize,
-    z: usize,
-    q: usize,
-    lower: Answer,
-    upper: Answer,
-    gap: u64,
-) -> usize
-    requires { ⌜ (length (now out) ≡ room) × (at + 133 ≤ room) ⌝ }
-    ensures { λ r. ⌜ Put (now (out .entry)) (now (out .exit)) at r (chanceLine p z q (answerReply lower) (answerReply upper) gap) × (r ≤ at + 133) ⌝ }
+// The line of an entry: its lower, its upper and u − f(u); or nothing where it is not live.
+pub(crate) fn put_chance(out: &mut [u8], at: usize, chance: Chance) -> usize
+    requires { ⌜ at + chanceRoom ≤ length (now out) ⌝ }
+    ensures { λ r. ⌜ Put (now (out .entry)) (now (out .exit)) at r (chanceText chance) × (r ≤ at + chanceRoom) ⌝ }
 {
-    let at = put(out, at, b"chance");
-    let at = put_field(out, at, p as u64);
-    let at = put_field(out, at, z as u64);
-    let at = put_field(out, at, q as u64);
+    if !chance.live {
+        return at;
+    }
+    let at = put_fields(
+        out,
+        at,
+        b"chance",
+        &[chance.p as u64, chance.z as u64, chance.q as u64],
+    );
+    let lower = chance.lower;
     let at = put_answer(out, at, lower);
+    let upper = chance.upper;
     let at = put_answer(out, at, upper);
-    let at = put_field(out, at, gap);
-    put(out, at, b"\n")
+    let at = put_field(out, at, chance.gap);
+    put_byte(out, at, b'\n')
 }
 
 // The line of a row: its mean steps, or nothing where the answer is a refusal.
-pub(crate) fn put_steps(out: &mut [u8; ROOM], at: usize, p: usize, z: usize, mean: Answer) -> usize
-    requires { ⌜ (length (now out) ≡ room) × (at + 69 ≤ room) ⌝ }
-    ensures { λ r. ⌜ Put (now (out .entry)) (now (out .exit)) at r (stepsBy p z (answerReply mean)) × (r ≤ at + 69) ⌝ }
+pub(crate) fn put_steps(out: &mut [u8], at: usize, p: usize, z: usize, mean: Answer) -> usize
+    requires { ⌜ at + stepsRoom ≤ length (now out) ⌝ }
+    ensures { λ r. ⌜ Put (now (out .entry)) (now (out .exit)) at r (stepsBy p z (answerReply mean)) × (r ≤ at + stepsRoom) ⌝ }
 {
     let Answer::Value(steps) = mean else {
         return at;
     };
-    let at = put(out, at, b"steps");
-    let at = put_field(out, at, p as u64);
-    let at = put_field(out, at, z as u64);
-    let at = put_field(out, at, steps);
-    put(out, at, b"\n")
+    let at = put_fields(out, at, b"steps", &[p as u64, z as u64, steps]);
+    put_byte(out, at, b'\n')
 }

@@ -1,24 +1,28 @@
--- `put_chance`: the word, the six fields and the line's end, one after the other.
+-- `put_chance`: of a live entry, the word with its place, the lower, the upper and u − f(u), and the line's end, one after the other; of another, nothing.
 use native.Mathlib.Omega.{arith}
+use mathlib.Core.List.{[], _∷_}
+use borrow.Author.Tests.{not-true, not-false}
 use borrow.Author.Needs.{needs}
-use Rattle.report.proofs.Puts.{put-then}
+use Rattle.text.specs.Decimal.{decimal}
+use Rattle.history.specs.Run.{answerReply}
+use Rattle.text.proofs.Puts.{put-none, put-then, put-fields}
+use Rattle.report.specs.Lines.{shown, chanceWord}
 use Rattle.report.proofs.lines.put_chance.Statement.{statement}
 use Rattle.report.proofs.lines.put_chance.Tie as tie
 
-slice-aggregate-put : tie.Need-slice-aggregate-put
-slice-aggregate-put c = search needs
+returns : tie.Need-returns
+returns c =
+    let chance = c .before .before .before .args .chance in
+    rw (not-true (chance .live) (c .if1 .taken)) (put-none _ _, omega arith)
 
-put-requires : tie.Need-put-requires
-put-requires c κs = search needs
+slice-aggregate-put-fields : tie.Need-slice-aggregate-put-fields
+slice-aggregate-put-fields c = search needs
 
-put-field-requires : tie.Need-put-field-requires
-put-field-requires c κs = search needs
+slice-aggregate-put-fields-2 : tie.Need-slice-aggregate-put-fields-2
+slice-aggregate-put-fields-2 c = search needs
 
-put-field-requires-2 : tie.Need-put-field-requires-2
-put-field-requires-2 c κs = search needs
-
-put-field-requires-3 : tie.Need-put-field-requires-3
-put-field-requires-3 c κs = search needs
+put-fields-requires : tie.Need-put-fields-requires
+put-fields-requires c κs = search needs
 
 put-answer-requires : tie.Need-put-answer-requires
 put-answer-requires c κs = search needs
@@ -26,31 +30,29 @@ put-answer-requires c κs = search needs
 put-answer-requires-2 : tie.Need-put-answer-requires-2
 put-answer-requires-2 c κs = search needs
 
-put-field-requires-4 : tie.Need-put-field-requires-4
-put-field-requires-4 c κs = search needs
+put-field-requires : tie.Need-put-field-requires
+put-field-requires c κs = search needs
 
-slice-aggregate-put-2 : tie.Need-slice-aggregate-put-2
-slice-aggregate-put-2 c = search needs
+put-byte-requires : tie.Need-put-byte-requires
+put-byte-requires c κs = search needs
 
-put-requires-2 : tie.Need-put-requires-2
-put-requires-2 c κs = search needs
+same-length : tie.Need-same-length
+same-length c = search needs
 
-returns : tie.Need-returns
-returns c =
-    let gap = c .before .before .before in
-    let upper = gap .before .before in
-    let lower = upper .before .before in
-    let q = lower .before .before in
-    let z = q .before .before in
-    let p = z .before .before in
-    let word = p .before .before in (
-      put-then (word .put .ensures)
-          (put-then (p .put-field .ensures .0)
-          (put-then (z .put-field2 .ensures .0)
-          (put-then (q .put-field3 .ensures .0)
-          (put-then (lower .put-answer .ensures .0)
-          (put-then (upper .put-answer2 .ensures .0)
-          (put-then (gap .put-field4 .ensures .0) (c .put2 .ensures))))))),
+returns-2 : tie.Need-returns-2
+returns-2 c =
+    let end = c .before .before in
+    let gap = end .before .before .before .before in
+    let upper = gap .before .before .before .before in
+    let lower = upper .before .before .before .before in
+    let word = lower .before .before .before .before in
+    let else = word .before .before .before .before in
+    let chance = else .before .before .before .args .chance in
+    let rest = put-then (lower .put-answer .ensures .0) (put-then (upper .put-answer2 .ensures .0)
+    (put-then (gap .put-field .ensures .0) (end .put-byte .ensures))) in
+    rw (not-false (chance .live) (else .if1 .left)) (
+      put-fields chanceWord (chance .p ∷ chance .z ∷ chance .q ∷ [])
+          (shown (answerReply (chance .lower)) ∷ shown (answerReply (chance .upper)) ∷ decimal (chance .gap) ∷ []) (word .put-fields .ensures .0) rest,
       omega arith,
     )
 
@@ -58,14 +60,13 @@ pub put-chance-spec : {M : Type 1} → statement M
 put-chance-spec =
     tie.close
     (tie.spec
-    slice-aggregate-put
-    put-requires
-    put-field-requires
-    put-field-requires-2
-    put-field-requires-3
+    returns
+    slice-aggregate-put-fields
+    slice-aggregate-put-fields-2
+    put-fields-requires
     put-answer-requires
     put-answer-requires-2
-    put-field-requires-4
-    slice-aggregate-put-2
-    put-requires-2
-    returns)
+    put-field-requires
+    put-byte-requires
+    same-length
+    returns-2)

@@ -1,7 +1,9 @@
--- `put_steps`: of a number, the word, the three fields and the line's end, one after the other; of a refusal, nothing.
+-- `put_steps`: of a number, the word with the row and the number, and the line's end; of a refusal, nothing.
 use native.Mathlib.Omega.{arith}
+use mathlib.Core.List.{[], _∷_}
 use borrow.Author.Needs.{needs}
-use Rattle.report.proofs.Puts.{put-none, put-then}
+use Rattle.text.proofs.Puts.{put-none, put-fields}
+use Rattle.report.specs.Lines.{stepsWord}
 use Rattle.report.proofs.lines.put_steps.Statement.{statement}
 use Rattle.report.proofs.lines.put_steps.Tie as tie
 
@@ -12,42 +14,30 @@ enum-told : tie.Need-enum-told
 enum-told c = search needs
 
 returns : tie.Need-returns
-returns c =
-    let start = c .before .before in
-    rw (c .enum-told .given .1) (put-none (start .args .at) (start .pre .0), omega arith)
+returns c = rw (c .enum-told .given .1) (put-none _ _, omega arith)
 
-slice-aggregate-put : tie.Need-slice-aggregate-put
-slice-aggregate-put c = search needs
+slice-aggregate-put-fields : tie.Need-slice-aggregate-put-fields
+slice-aggregate-put-fields c = search needs
 
-put-requires : tie.Need-put-requires
-put-requires c κs = search needs
+slice-aggregate-put-fields-2 : tie.Need-slice-aggregate-put-fields-2
+slice-aggregate-put-fields-2 c = search needs
 
-put-field-requires : tie.Need-put-field-requires
-put-field-requires c κs = search needs
+put-fields-requires : tie.Need-put-fields-requires
+put-fields-requires c κs = search needs
 
-put-field-requires-2 : tie.Need-put-field-requires-2
-put-field-requires-2 c κs = search needs
+put-byte-requires : tie.Need-put-byte-requires
+put-byte-requires c κs = search needs
 
-put-field-requires-3 : tie.Need-put-field-requires-3
-put-field-requires-3 c κs = search needs
-
-slice-aggregate-put-2 : tie.Need-slice-aggregate-put-2
-slice-aggregate-put-2 c = search needs
-
-put-requires-2 : tie.Need-put-requires-2
-put-requires-2 c κs = search needs
+same-length : tie.Need-same-length
+same-length c = search needs
 
 returns-2 : tie.Need-returns-2
 returns-2 c =
-    let steps = c .before .before .before in
-    let z = steps .before .before in
-    let p = z .before .before in
-    let word = p .before .before in
-    rw (word .before .before .before .before .mean .given .1) (
-      put-then (word .put .ensures)
-          (put-then (p .put-field .ensures .0)
-          (put-then (z .put-field2 .ensures .0)
-          (put-then (steps .put-field3 .ensures .0) (c .put2 .ensures)))),
+    let fields = c .before .before .before .before .before .before in
+    let mean = fields .before .before .before .before .before in
+    let args = mean .before .before .before .args in
+    rw (mean .mean .given .1) (
+      put-fields stepsWord (args .p ∷ args .z ∷ _ ∷ []) [] (fields .put-fields .ensures .0) (c .before .before .put-byte .ensures),
       omega arith,
     )
 
@@ -58,11 +48,9 @@ put-steps-spec =
     enum-known-mean
     enum-told
     returns
-    slice-aggregate-put
-    put-requires
-    put-field-requires
-    put-field-requires-2
-    put-field-requires-3
-    slice-aggregate-put-2
-    put-requires-2
+    slice-aggregate-put-fields
+    slice-aggregate-put-fields-2
+    put-fields-requires
+    put-byte-requires
+    same-length
     returns-2)

@@ -1,46 +1,33 @@
--- `put_table`: the word, the four fields and the line's end, one after the other.
+-- `put_table`: the word with four numbers, and the line's end.
 use native.Mathlib.Omega.{arith}
+use mathlib.Core.List.{[], _∷_}
 use borrow.Author.Needs.{needs}
-use Rattle.report.proofs.Puts.{put-then}
+use Rattle.text.proofs.Puts.{put-fields}
+use Rattle.report.specs.Lines.{tableWord}
 use Rattle.report.proofs.lines.put_table.Statement.{statement}
 use Rattle.report.proofs.lines.put_table.Tie as tie
 
-slice-aggregate-put : tie.Need-slice-aggregate-put
-slice-aggregate-put c = search needs
+slice-aggregate-put-fields : tie.Need-slice-aggregate-put-fields
+slice-aggregate-put-fields c = search needs
 
-put-requires : tie.Need-put-requires
-put-requires c κs = search needs
+slice-aggregate-put-fields-2 : tie.Need-slice-aggregate-put-fields-2
+slice-aggregate-put-fields-2 c = search needs
 
-put-field-requires : tie.Need-put-field-requires
-put-field-requires c κs = search needs
+put-fields-requires : tie.Need-put-fields-requires
+put-fields-requires c κs = search needs
 
-put-field-requires-2 : tie.Need-put-field-requires-2
-put-field-requires-2 c κs = search needs
+put-byte-requires : tie.Need-put-byte-requires
+put-byte-requires c κs = search needs
 
-put-field-requires-3 : tie.Need-put-field-requires-3
-put-field-requires-3 c κs = search needs
-
-put-field-requires-4 : tie.Need-put-field-requires-4
-put-field-requires-4 c κs = search needs
-
-slice-aggregate-put-2 : tie.Need-slice-aggregate-put-2
-slice-aggregate-put-2 c = search needs
-
-put-requires-2 : tie.Need-put-requires-2
-put-requires-2 c κs = search needs
+same-length : tie.Need-same-length
+same-length c = search needs
 
 returns : tie.Need-returns
 returns c =
-    let alive = c .before .before .before in
-    let n = alive .before .before in
-    let g = n .before .before in
-    let s = g .before .before in
-    let word = s .before .before in (
-      put-then (word .put .ensures)
-          (put-then (s .put-field .ensures .0)
-          (put-then (g .put-field2 .ensures .0)
-          (put-then (n .put-field3 .ensures .0)
-          (put-then (alive .put-field4 .ensures .0) (c .put2 .ensures))))),
+    let fields = c .before .before .before .before .before .before in
+    let args = fields .before .before .before .before .before .args in (
+      put-fields tableWord (args .s ∷ args .g ∷ args .n ∷ args .alive ∷ []) [] (fields .put-fields .ensures .0)
+          (c .before .before .put-byte .ensures),
       omega arith,
     )
 
@@ -48,12 +35,9 @@ pub put-table-spec : {M : Type 1} → statement M
 put-table-spec =
     tie.close
     (tie.spec
-    slice-aggregate-put
-    put-requires
-    put-field-requires
-    put-field-requires-2
-    put-field-requires-3
-    put-field-requires-4
-    slice-aggregate-put-2
-    put-requires-2
+    slice-aggregate-put-fields
+    slice-aggregate-put-fields-2
+    put-fields-requires
+    put-byte-requires
+    same-length
     returns)
