@@ -20,8 +20,11 @@ use Rattle.register.specs.Questions.{upperIn, lowerIn, marginIn, liveIn}
 use Rattle.history.specs.Calls.{Call, Reply, live}
 use Rattle.history.specs.Run.{answerReply, replyOf}
 use Rattle.report.specs.declared.Printout.{Printout}
-use Rattle.report.specs.Walks.{room, Holds, Gaps}
-use Rattle.report.specs.Lines.{tableLine, marginLine, chanceLine, byEntry, isLive, liveEntries, chanceOf, chanceAt, chanceLines, stepsLines, gapOf, linesBy, acceptedLines}
+use Rattle.gaps.specs.Walks.{Gaps}
+use Rattle.report.specs.Walks.{room, Holds}
+use Rattle.gaps.specs.Gaps.{gapOf}
+use Rattle.lines.specs.Lines.{tableLine, marginLine, chanceLine, isLive}
+use Rattle.report.specs.Printed.{byEntry, liveEntries, chanceOf, chanceAt, chanceLines, stepsLines, linesBy, acceptedLines}
 
 module _ (r : Register) (p z q : ℕ) {a : Answer} {t : Bool} (is : a ≡ liveIn r p z q) (said : t ≡ isLive (answerReply a)) where
   -- Whether an entry is live.

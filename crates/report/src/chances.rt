@@ -1,17 +1,18 @@
 // The lines of the live entries, in file order.
 
-use super::lines::Chance;
-use super::lines::put_chance;
-use super::live::is_live;
 use delivery::shape::entries;
+use lines::Chance;
+use lines::is_live;
+use lines::put_chance;
 use register::Register;
 ghost use mathlib.Core.Path.{_≡_};
 ghost use Prim.Native.Nat.{_+_, _*_, _≤_, _<_};
 ghost use lib.ListN.{length};
 ghost use Rattle.text.specs.Walks.{Put};
 ghost use Rattle.history.specs.Run.{replyOf};
-ghost use Rattle.report.specs.Lines.{chanceOf};
-ghost use Rattle.report.specs.Walks.{chanceRoom, chanceText, chancesBy};
+ghost use Rattle.lines.specs.Walks.{chanceRoom, chanceText};
+ghost use Rattle.report.specs.Printed.{chanceOf};
+ghost use Rattle.report.specs.Walks.{chancesBy};
 
 // All that the line of entry (p, z, q) needs of a register.
 fn asked(register: Register, p: usize, z: usize, q: usize, gap: u64) -> Chance

@@ -14,27 +14,24 @@ use model::sizes::records;
 use model::sizes::states;
 use model::sizes::symbols;
 use outcome::Outcome;
-use outcome::Reason;
+use outcome::is_refused;
 use outcome::number;
 use register::Register;
 use steps::put_means;
 
 mod chances; // chances.rt: the lines of the live entries
-mod gaps; // gaps.rt: u − f(u) at the entries
-mod lines; // lines.rt: one line each
 mod live; // live.rt: how many entries are live
 pub mod self_test; // self_test.rt: the self-test on model W
 mod steps; // steps.rt: the lines of the rows' mean steps
 
 ghost use mathlib.Core.Path.{_≡_};
-ghost use Rattle.outcome.specs.Reasons.{numberOf};
 ghost use Rattle.outcome.specs.declared.Outcome.the-variants.{Accepted};
 ghost use Rattle.certificate.specs.Verdict.{verdict};
 ghost use Rattle.history.specs.Run.{replyOf};
 ghost use Prim.Native.Nat.{_<_};
 ghost use Rattle.ppda.specs.Equations.{entries};
-ghost use Rattle.report.specs.Lines.{refusedLine, linesBy, acceptedLines, printed};
-ghost use Rattle.report.specs.Walks.{room, Holds};
+ghost use Rattle.report.specs.Printed.{linesBy, acceptedLines, printed};
+ghost use Rattle.report.specs.Walks.{room, Holds, HoldsModel, refusalOf};
 ghost use lib.ListN.{length};
 
 // The bytes of a buffer: no report of at most 1,024 entries and 128 rows has more.
@@ -53,11 +50,19 @@ fn blank() -> [u8; ROOM]
     [0u8; ROOM]
 }
 
-// A refusal.
-fn refusal(reason: Reason, place: usize, shortfall: i64) -> Printout
-    ensures { λ r. ⌜ Holds r (refusedLine (numberOf reason) place shortfall) ⌝ }
+// The line of a refusal; nothing for an accepted file.
+fn refusal(outcome: Outcome) -> Printout
+    ensures { λ r. ⌜ Holds r (refusalOf outcome) ⌝ }
 {
     let mut bytes = blank();
+    let Outcome::Refused {
+        reason,
+        place,
+        shortfall,
+    } = outcome
+    else {
+        return Printout { bytes, length: 0 };
+    };
     let length = put_refused(&mut bytes, 0, number(reason), place, shortfall);
     Printout { bytes, length }
 }
@@ -87,29 +92,29 @@ fn shown(register: Register, model: &[u8], delivery: &[u8]) -> Printout
     shown_with(register, records(model), &gaps, s, g)
 }
 
+// What is printed of any delivery, where a register holds the model.
+fn delivered(holding: Register, model: &[u8], delivery: &[u8]) -> Printout
+    requires { ⌜ HoldsModel holding (now model) ⌝ }
+    ensures { λ r. ⌜ Holds r (printed (now (model .entry)) (now (delivery .entry))) ⌝ }
+{
+    let received = holding.file_delivery(delivery);
+    let outcome = received.outcome;
+    if is_refused(outcome) {
+        return refusal(outcome);
+    }
+    let register = received.register;
+    shown(register, model, delivery)
+}
+
 // What is printed of any two files.
 pub fn of_files(model: &[u8], delivery: &[u8]) -> Printout
     ensures { λ r. ⌜ Holds r (printed (now (model .entry)) (now (delivery .entry))) ⌝ }
 {
     let filed = Register::empty().file_model(model);
     let outcome = filed.outcome;
-    if let Outcome::Refused {
-        reason,
-        place,
-        shortfall,
-    } = outcome {
-        return refusal(reason, place, shortfall);
+    if is_refused(outcome) {
+        return refusal(outcome);
     }
     let holding = filed.register;
-    let received = holding.file_delivery(delivery);
-    let outcome = received.outcome;
-    if let Outcome::Refused {
-        reason,
-        place,
-        shortfall,
-    } = outcome {
-        return refusal(reason, place, shortfall);
-    }
-    let register = received.register;
-    shown(register, model, delivery)
+    delivered(holding, model, delivery)
 }

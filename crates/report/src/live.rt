@@ -1,22 +1,12 @@
 // How many entries are live, by a register's answers.
 
 use delivery::shape::entries;
+use lines::is_live;
 use register::Register;
-use register::answer::Answer;
 ghost use mathlib.Core.Path.{_≡_};
 ghost use Prim.Native.Nat.{_<_};
-ghost use Rattle.history.specs.Run.{answerReply, replyOf};
-ghost use Rattle.report.specs.Lines.{isLive, liveEntries};
-
-// Whether an answer on a live mark says that the entry is live.
-pub(crate) fn is_live(answer: Answer) -> bool
-    ensures { λ r. ⌜ r ≡ isLive (answerReply answer) ⌝ }
-{
-    match answer {
-        Answer::Value(n) => n == 1,
-        Answer::Refused { .. } => false,
-    }
-}
+ghost use Rattle.history.specs.Run.{replyOf};
+ghost use Rattle.report.specs.Printed.{liveEntries};
 
 // The live entries of a model with s states and g symbols.
 pub(crate) fn live_entries(register: Register, s: usize, g: usize) -> usize

@@ -1,15 +1,15 @@
 // The lines of the rows' mean steps, in file order.
 
-use super::lines::put_steps;
 use delivery::shape::rows;
+use lines::put_steps;
 use register::Register;
 ghost use mathlib.Core.Path.{_≡_};
 ghost use Prim.Native.Nat.{_+_, _*_, _≤_, _<_};
 ghost use lib.ListN.{length};
 ghost use Rattle.text.specs.Walks.{Put};
 ghost use Rattle.history.specs.Run.{replyOf};
-ghost use Rattle.report.specs.Lines.{stepsLines};
-ghost use Rattle.report.specs.Walks.{stepsRoom};
+ghost use Rattle.lines.specs.Walks.{stepsRoom};
+ghost use Rattle.report.specs.Printed.{stepsLines};
 
 // The lines of all rows.
 pub(crate) fn put_means(out: &mut [u8], at: usize, register: Register, s: usize, g: usize) -> usize

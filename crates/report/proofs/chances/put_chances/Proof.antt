@@ -1,15 +1,15 @@
 -- `put_chances`: the text carried is the lines of the entries passed.
 use Prim.Native.Nat.{_*_, _-_, _≤_}
 use native.Mathlib.Omega.{arith}
-use mathlib.Core.Path.{_≡_, ap, _∙_}
+use mathlib.Core.Path.{_≡_, ap}
 use denote.Ref.{now}
 use borrow.Author.Needs.{needs}
 use Rattle.text.proofs.Puts.{put-as, Joined, joined-none, joined-more, joined-all}
 use Rattle.text.specs.Texts.{joinTo}
 use Rattle.ppda.specs.Equations.{entries}
 use Rattle.history.specs.Run.{replyOf}
-use Rattle.report.specs.Lines.{byEntry, chanceAt, chanceLines}
-use Rattle.report.specs.Walks.{chanceRoom}
+use Rattle.report.specs.Printed.{byEntry, chanceAt, chanceLines}
+use Rattle.lines.specs.Walks.{chanceRoom}
 use Rattle.report.proofs.Asked.{chance-by-number}
 use Rattle.report.proofs.chances.put_chances.Statement.{statement}
 use Rattle.report.proofs.chances.put_chances.Tie as tie
@@ -65,8 +65,9 @@ loop-again c =
     let loop = turn .before .loop in
     let args = turn .before .before .before .before .args in
     let (all, few, so) = loop .inv in
-    let line = asked .asked .ensures ∙ chance-by-number (replyOf (args .register)) (now (args .gaps)) (args .s) (args .g) (loop .e) in
-    (all, few, joined-more so (turn .loop-test .taken) (put-as line (put .put-chance .ensures .0), put .put-chance .ensures .1))
+    let number = chance-by-number (replyOf (args .register)) (now (args .gaps)) (args .s) (args .g) (loop .e) in
+    let line = put-as number (put-as (asked .asked .ensures) (put .put-chance .ensures .0)) in
+    (all, few, joined-more so (turn .loop-test .taken) (line, put .put-chance .ensures .1))
 
 same-length : tie.Need-same-length Inv-loop μ-loop
 same-length c = search needs

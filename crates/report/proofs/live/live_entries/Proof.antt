@@ -6,7 +6,7 @@ use mathlib.Core.Path.{_≡_, sym, ap, _∙_}
 use borrow.Author.Needs.{needs}
 use Rattle.ppda.specs.Sums.{bit, sumTo}
 use Rattle.history.specs.Run.{replyOf}
-use Rattle.report.specs.Lines.{byEntry, liveAt, liveEntries}
+use Rattle.report.specs.Printed.{byEntry, liveAt, liveEntries}
 use Rattle.report.proofs.Counts.{Counted, counted-none, counted-more, counted-same, counted-all}
 use Rattle.report.proofs.Asked.{live-said}
 use Rattle.report.proofs.live.live_entries.Statement.{statement}

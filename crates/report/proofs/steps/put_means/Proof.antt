@@ -6,8 +6,8 @@ use borrow.Author.Needs.{needs}
 use Rattle.text.proofs.Puts.{put-as, Joined, joined-none, joined-more, joined-all}
 use Rattle.text.specs.Texts.{joinTo}
 use Rattle.history.specs.Run.{replyOf}
-use Rattle.report.specs.Lines.{byRow, stepsAt, stepsLines}
-use Rattle.report.specs.Walks.{stepsRoom}
+use Rattle.report.specs.Printed.{byRow, stepsAt, stepsLines}
+use Rattle.lines.specs.Walks.{stepsRoom}
 use Rattle.report.proofs.steps.put_means.Statement.{statement}
 use Rattle.report.proofs.steps.put_means.Tie as tie
 
