@@ -1,14 +1,12 @@
 -- Lines and counts by a register's answers, entry by entry, are those by its replies.
-use Prim.Native.Nat.{ℕ, zero, suc, _+_, _*_, _/_, _%_, _≤_, _<_}
+use Prim.Native.Nat.{ℕ, _+_, _*_, _/_, _%_, _≤_, _<_}
 use native.Mathlib.Nat.{div-add-mod'}
-use native.Mathlib.Omega.{arith}
 use mathlib.Core.Bool.{Bool, cond}
-use mathlib.Core.List.{List, [], _++_}
-use mathlib.Core.Path.{_≡_, refl, ap, ap₂, _∙_}
+use mathlib.Core.List.{List, []}
+use mathlib.Core.Path.{_≡_, ap, _∙_}
 use lib.ListN.{length, getD}
-use Rattle.text.specs.Texts.{joinTo}
 use Rattle.text.specs.Walks.{Put}
-use Rattle.text.proofs.Puts.{put-then}
+use Rattle.text.proofs.Puts.{put-then, join-cong}
 use Rattle.ppda.specs.Equations.{Vector, entries}
 use Rattle.ppda.proofs.Places.{row-of}
 use Rattle.model.specs.Records.{recordsOf, statesOf, symbolsOf}
@@ -51,11 +49,6 @@ pub put-holds : {a t : List ℕ} {r : Printout} → length a ≡ room → Put a 
 put-holds size p fits = record { size = p .size ∙ size; fits = fits; holds = p .puts }
 
 -- ---- all lines
-
-join-cong : (h k : ℕ → List ℕ) (n : ℕ) → ((i : ℕ) → i < n → h i ≡ k i) → joinTo h n ≡ joinTo k n
-unfolding joinTo
-join-cong h k zero same = refl
-join-cong h k (suc n) same = ap₂ _++_ (join-cong h k n (λ i l. same i (omega arith))) (same n (omega arith))
 
 -- The same numbers, the same lines.
 chances-same : (ask : Call → Reply) {s g : ℕ} (v u : Vector) → 0 < s → 0 < g → Same s g v u → chanceLines ask v s g ≡ chanceLines ask u s g
