@@ -40,9 +40,9 @@ module _ (r : Register) (p z q : ℕ) {a : Answer} {t : Bool} (is : a ≡ liveIn
 pub entry-number : (s g e : ℕ) → (e / s / g * g + e / s % g) * s + e % s ≡ e
 entry-number s g e = ap (λ k. k * s + e % s) (div-add-mod' (e / s) g) ∙ div-add-mod' e s
 
-pub chance-by-number : (ask : Call → Reply) (l : List ℕ) (s g e : ℕ)
-    → chanceOf ask (e / s / g) (e / s % g) (e % s) (getD l e 0) ≡ byEntry s g (chanceAt ask (entries s g l)) e
-chance-by-number ask l s g e = rw entry-number
+pub chance-by-number : (ask : Call → Reply) (l : List ℕ) (s g e : ℕ) {t : List ℕ}
+    → t ≡ chanceOf ask (e / s / g) (e / s % g) (e % s) (getD l e 0) → t ≡ byEntry s g (chanceAt ask (entries s g l)) e
+chance-by-number ask l s g e is = is ∙ rw entry-number
 
 -- A printout whose text starts at byte 0 of a buffer.
 pub put-holds : {a t : List ℕ} {r : Printout} → length a ≡ room → Put a (r .bytes) 0 (r .length) t → r .length ≤ room → Holds r t

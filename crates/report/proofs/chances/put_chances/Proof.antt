@@ -65,9 +65,8 @@ loop-again c =
     let loop = turn .before .loop in
     let args = turn .before .before .before .before .args in
     let (all, few, so) = loop .inv in
-    let number = chance-by-number (replyOf (args .register)) (now (args .gaps)) (args .s) (args .g) (loop .e) in
-    let line = put-as number (put-as (asked .asked .ensures) (put .put-chance .ensures .0)) in
-    (all, few, joined-more so (turn .loop-test .taken) (line, put .put-chance .ensures .1))
+    let line = chance-by-number (replyOf (args .register)) (now (args .gaps)) (args .s) (args .g) (loop .e) (asked .asked .ensures) in
+    (all, few, joined-more so (turn .loop-test .taken) (put-as line (put .put-chance .ensures .0), put .put-chance .ensures .1))
 
 same-length : tie.Need-same-length Inv-loop μ-loop
 same-length c = search needs
