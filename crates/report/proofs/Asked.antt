@@ -1,39 +1,77 @@
--- Lines and counts by a register's answers are those by its replies.
-use Prim.Native.Nat.{ℕ}
-use mathlib.Core.Bool.{Bool, true, false}
-use mathlib.Core.List.{List, [], _++_}
+-- Lines and counts by a register's answers, entry by entry, are those by its replies.
+use Prim.Native.Nat.{ℕ, _+_, _*_, _/_, _%_, _≤_, _<_}
+use native.Mathlib.Nat.{div-add-mod'}
+use mathlib.Core.Bool.{Bool, cond}
+use mathlib.Core.List.{List, []}
 use mathlib.Core.Path.{_≡_, ap, _∙_}
-use Rattle.ppda.specs.Equations.{Vector}
-use Rattle.model.specs.Records.{recordsOf}
-use Rattle.model.specs.Accepted.{Sized}
+use lib.ListN.{length, getD}
+use Rattle.text.specs.Walks.{Put}
+use Rattle.text.proofs.Puts.{put-then, join-cong}
+use Rattle.ppda.specs.Equations.{Vector, entries}
+use Rattle.ppda.proofs.Places.{row-of}
+use Rattle.model.specs.Records.{recordsOf, statesOf, symbolsOf}
+use Rattle.equations.specs.Held.{Sized, Same}
+use Rattle.equations.proofs.Ranges.{some-states, some-symbols}
 use Rattle.register.specs.declared.Register.{Register}
 use Rattle.register.specs.declared.answer.Answer.{Answer}
 use Rattle.register.specs.Questions.{upperIn, lowerIn, marginIn, liveIn}
-use Rattle.history.specs.Calls.{live}
+use Rattle.history.specs.Calls.{Call, Reply, live}
 use Rattle.history.specs.Run.{answerReply, replyOf}
-use Rattle.report.specs.Lines.{tableLine, marginLine, chanceLine, isLive, liveEntries, chanceAt, chanceLines, stepsLines, gapOf, acceptedLines}
+use Rattle.report.specs.declared.Printout.{Printout}
+use Rattle.gaps.specs.Walks.{Gaps}
+use Rattle.report.specs.Walks.{room, Holds}
+use Rattle.gaps.specs.Gaps.{gapOf}
+use Rattle.lines.specs.Lines.{tableLine, marginLine, chanceLine, isLive}
+use Rattle.report.specs.Printed.{byEntry, liveEntries, chanceOf, chanceAt, chanceLines, stepsLines, linesBy, acceptedLines}
 
-module _ (r : Register) (p z q : ℕ) where
+module _ (r : Register) (p z q : ℕ) {a : Answer} {t : Bool} (is : a ≡ liveIn r p z q) (said : t ≡ isLive (answerReply a)) where
   -- Whether an entry is live.
-  pub live-said : {a : Answer} {t : Bool} → a ≡ liveIn r p z q → t ≡ isLive (answerReply a) → t ≡ isLive (replyOf r (live p z q))
+  pub live-said : t ≡ isLive (replyOf r (live p z q))
   unfolding replyOf
-  live-said is said = said ∙ ap (λ a. isLive (answerReply a)) is
+  live-said = said ∙ ap (λ a. isLive (answerReply a)) is
 
-  -- The line of one that is not, and of one that is.
-  pub chance-none : (gap : Vector) → false ≡ isLive (replyOf r (live p z q)) → [] ≡ chanceAt (replyOf r) gap p z q
-  unfolding chanceAt
-  chance-none gap dead = rw (← dead)
+  -- Its line.
+  pub chance-said : (gap : ℕ) {l u : Answer} → l ≡ lowerIn r p z q → u ≡ upperIn r p z q
+      → cond t (chanceLine p z q (answerReply l) (answerReply u) gap) [] ≡ chanceOf (replyOf r) p z q gap
+  unfolding chanceOf replyOf
+  chance-said gap is-l is-u = rw (said, is, is-l, is-u)
 
-  pub chance-said : (gap : Vector) {l u : Answer} {v : ℕ} → true ≡ isLive (replyOf r (live p z q)) → l ≡ lowerIn r p z q
-      → u ≡ upperIn r p z q → v ≡ gap p z q → chanceLine p z q (answerReply l) (answerReply u) v ≡ chanceAt (replyOf r) gap p z q
-  unfolding chanceAt replyOf
-  chance-said gap alive is-l is-u is-v = rw (← alive, is-l, is-u, is-v)
+-- Entry number e is the entry at place e.
+pub entry-number : (s g e : ℕ) → (e / s / g * g + e / s % g) * s + e % s ≡ e
+entry-number s g e = ap (λ k. k * s + e % s) (div-add-mod' (e / s) g) ∙ div-add-mod' e s
 
--- All lines.
-pub lines-said : (r : Register) {b : List ℕ} (d : List ℕ) {s g n alive : ℕ} {m : Answer} → Sized b s g → n ≡ recordsOf b
-    → alive ≡ liveEntries (replyOf r) s g → m ≡ marginIn r
-    → tableLine s g n alive
-    ++ (marginLine (answerReply m) ++ (chanceLines (replyOf r) (gapOf b d) s g ++ stepsLines (replyOf r) s g))
-    ≡ acceptedLines (replyOf r) b d
-unfolding acceptedLines replyOf
-lines-said r d sized is-n is-alive is-m = rw (is-n, is-alive, is-m, sized .states, sized .symbols)
+pub chance-by-number : (ask : Call → Reply) (l : List ℕ) (s g e : ℕ) {t : List ℕ}
+    → t ≡ chanceOf ask (e / s / g) (e / s % g) (e % s) (getD l e 0) → t ≡ byEntry s g (chanceAt ask (entries s g l)) e
+chance-by-number ask l s g e is = is ∙ rw entry-number
+
+-- A printout whose text starts at byte 0 of a buffer.
+pub put-holds : {a t : List ℕ} {r : Printout} → length a ≡ room → Put a (r .bytes) 0 (r .length) t → r .length ≤ room → Holds r t
+put-holds size p fits = record { size = p .size ∙ size; fits = fits; holds = p .puts }
+
+-- ---- all lines
+
+-- The same numbers, the same lines.
+chances-same : (ask : Call → Reply) {s g : ℕ} (v u : Vector) → 0 < s → 0 < g → Same s g v u → chanceLines ask v s g ≡ chanceLines ask u s g
+unfolding chanceLines
+chances-same ask {s} {g} v u some-s some-g same =
+    join-cong _ _ (s * g * s) (λ e l.
+    let (hr, hq, is-entry) = row-of (s * g) s e some-s l in
+    let (hp, hz, is-row) = row-of s g (e / s) some-g hr in
+    ap (chanceOf ask (e / s / g) (e / s % g) (e % s)) (same _ _ _ hp hz hq))
+
+-- All lines, where the sizes and u − f(u) are those of the files.
+pub lines-said : (ask : Call → Reply) {b : List ℕ} (d l : List ℕ) {s g n : ℕ} → Sized b s g → n ≡ recordsOf b
+    → Gaps b d (statesOf b) (symbolsOf b) l → linesBy ask n (entries s g l) s g ≡ acceptedLines ask b d
+unfolding linesBy
+lines-said ask {b} d l sized is-n gaps =
+    let same = chances-same ask (entries (statesOf b) (symbolsOf b) l) (gapOf b d) (rw (← sized .states) (some-states sized))
+    (rw (← sized .symbols) (some-symbols sized)) gaps in
+    rw (is-n, sized .states, sized .symbols, same)
+
+-- The line of the sizes, of the margin, the lines of the live entries and of the rows, one after the other.
+pub lines-put : (r : Register) (v : Vector) (s g n : ℕ) {alive : ℕ} {m : Answer} {a b c d e : List ℕ} {at i j k end : ℕ}
+    → alive ≡ liveEntries (replyOf r) s g → m ≡ marginIn r → Put a b at i (tableLine s g n alive) → Put b c i j (marginLine (answerReply m))
+    → Put c d j k (chanceLines (replyOf r) v s g) → Put d e k end (stepsLines (replyOf r) s g) → Put a e at end (linesBy (replyOf r) n v s g)
+unfolding linesBy replyOf
+lines-put r v s g n is-alive is-m table margin chances steps =
+    rw (← is-alive, ← is-m) (put-then table (put-then margin (put-then chances steps)))

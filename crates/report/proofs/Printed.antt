@@ -1,7 +1,7 @@
 -- What is printed of two files, by their filings in a cleared register: a refusal, or the lines of what the register then holds, whose
 -- delivery is accepted.
 use Prim.Native.Nat.{ℕ}
-use mathlib.Core.Bool.{true}
+use mathlib.Core.Bool.{Bool, true, false, false≢true}
 use mathlib.Core.List.{List, [], _∷_}
 use mathlib.Core.Path.{_≡_, refl, sym, ap, _∙_}
 use lib.IntN.{ℤ}
@@ -9,8 +9,10 @@ use mir.Syntax.{w64}
 use mir.Val.{SFits, toZ, ofZ}
 use mir.Facts.{toZ-ofZ}
 use Rattle.outcome.specs.declared.Reason.{Reason}
-use Rattle.outcome.specs.declared.Outcome.the-variants.{Accepted, Refused}
 use Rattle.outcome.specs.Reasons.{numberOf}
+use Rattle.outcome.specs.declared.Outcome.{Outcome}
+use Rattle.outcome.specs.declared.Outcome.the-variants.{Accepted, Refused}
+use Rattle.outcome.specs.Tests.{isRefused}
 use Rattle.certificate.specs.Verdict.{verdict}
 use Rattle.register.specs.declared.answer.Mark.{Mark}
 use Rattle.register.specs.declared.answer.Mark.the-variants.{Known, New, Absent}
@@ -22,7 +24,9 @@ use Rattle.history.specs.Calls as calls
 use Rattle.history.specs.Plain.{lastModel, lastDelivery}
 use Rattle.history.specs.Run.{modelReply, markReply, deliveryReply, after, replyOf, registerAfter, replyTo, history}
 use Rattle.history.proofs.Plain.{right-pair}
-use Rattle.report.specs.Lines.{refusedLine, unlessRefused, acceptedLines, printed}
+use Rattle.lines.specs.Lines.{refusedLine}
+use Rattle.report.specs.Walks.{HoldsModel, refusalOf}
+use Rattle.report.specs.Printed.{unlessRefused, acceptedLines, printed}
 
 -- An accepted delivery is taken, whatever its mark.
 more-of : (m : Mark) (more : List ℕ) → more ≡ unlessRefused (markReply m) more
@@ -35,39 +39,74 @@ taken-of Known = refl
 taken-of New = refl
 taken-of Absent = refl
 
-module _ {e : Register} (b d : List ℕ) {filed : Filed} (none : e ≡ cleared) (is : filed ≡ fileModel e b) where
-  model-reply : replyTo [] (calls.fileModel b) ≡ modelReply (filed .outcome)
+-- A filing that is refused prints its line, and one that is not is accepted.
+model-line : (o : Outcome) (more : List ℕ) → isRefused o ≡ true → refusalOf o ≡ unlessRefused (modelReply o) more
+model-line Accepted more h = absurd (false≢true h)
+model-line (Refused x i k) more h = refl
+
+delivery-line : (o : Outcome) (m : Mark) (more : List ℕ) → isRefused o ≡ true → refusalOf o ≡ unlessRefused (deliveryReply o m) more
+delivery-line Accepted m more h = absurd (false≢true h)
+delivery-line (Refused x i k) m more h = refl
+
+not-refused : (o : Outcome) → isRefused o ≡ false → o ≡ Accepted
+not-refused Accepted h = refl
+not-refused (Refused x i k) h = absurd (false≢true (sym h))
+
+-- The line of a refusal whose parts were taken out and put together again.
+pub refused-text : {o : Outcome} {x : Reason} {i : ℕ} {k : ℤ} {n : ℕ} → o ≡ Refused x i k → n ≡ numberOf x → SFits w64 k
+    → refusedLine n i (toZ w64 (ofZ w64 k)) ≡ refusalOf o
+refused-text refused is fits = rw (refused, is, toZ-ofZ fits)
+
+-- ---- the model
+
+module _ {e : Register} (b : List ℕ) {filed : Filed} (none : e ≡ cleared) (is : filed ≡ fileModel e b) where
+  replied : replyTo [] (calls.fileModel b) ≡ modelReply (filed .outcome)
   unfolding replyOf registerAfter
-  model-reply = rw (is, none)
+  replied = rw (is, none)
 
-  pub model-refused : {x : Reason} {i : ℕ} {k : ℤ} → filed .outcome ≡ Refused x i k → SFits w64 k
-      → refusedLine (numberOf x) i (toZ w64 (ofZ w64 k)) ≡ printed b d
+  pub model-refused : (d : List ℕ) {t : Bool} → t ≡ isRefused (filed .outcome) → t ≡ true → refusalOf (filed .outcome) ≡ printed b d
   unfolding printed
-  model-refused refused fits = rw (toZ-ofZ fits, model-reply, refused)
+  model-refused d said refused = rw replied (model-line (filed .outcome) _ (sym said ∙ refused))
 
-  module _ {received : Received} (passed : filed .outcome ≡ Accepted) (is-next : received ≡ fileDelivery (filed .register) d) where
-    delivery-reply : replyTo (calls.fileModel b ∷ []) (calls.fileDelivery d) ≡ deliveryReply (received .outcome) (received .mark)
-    unfolding replyOf registerAfter after
-    delivery-reply = rw (is-next, is, none)
+  pub model-held : {t : Bool} → t ≡ isRefused (filed .outcome) → t ≡ false → HoldsModel (filed .register) b
+  model-held said passed =
+      record {
+        holding = rw (is, none);
+        accepted = rw (is, none) at (not-refused (filed .outcome) (sym said ∙ passed));
+      }
 
-    pub delivery-refused : {x : Reason} {i : ℕ} {k : ℤ} → received .outcome ≡ Refused x i k → SFits w64 k
-        → refusedLine (numberOf x) i (toZ w64 (ofZ w64 k)) ≡ printed b d
+-- ---- the delivery
+
+module _ {r : Register} (b d : List ℕ) {received : Received} (held : HoldsModel r b) (is : received ≡ fileDelivery r d) where
+  model-reply : replyTo [] (calls.fileModel b) ≡ calls.accepted
+  unfolding replyOf registerAfter
+  model-reply = rw (held .accepted)
+
+  delivery-reply : replyTo (calls.fileModel b ∷ []) (calls.fileDelivery d) ≡ deliveryReply (received .outcome) (received .mark)
+  unfolding replyOf registerAfter after
+  delivery-reply = rw (is, held .holding)
+
+  pub delivery-refused : {t : Bool} → t ≡ isRefused (received .outcome) → t ≡ true → refusalOf (received .outcome) ≡ printed b d
+  unfolding printed
+  delivery-refused said refused =
+      rw (model-reply, delivery-reply) (delivery-line (received .outcome) (received .mark) _ (sym said ∙ refused))
+
+  module _ {t : Bool} (said : t ≡ isRefused (received .outcome)) (passed : t ≡ false) where
+    taken : received .outcome ≡ Accepted
+    taken = not-refused (received .outcome) (sym said ∙ passed)
+
+    kept : registerAfter (calls.fileDelivery d ∷ calls.fileModel b ∷ []) ≡ received .register
+    unfolding registerAfter after
+    kept = rw (is, held .holding)
+
+    pub lines-of-held : acceptedLines (replyOf (received .register)) b d ≡ printed b d
     unfolding printed
-    delivery-refused refused fits = rw (toZ-ofZ fits, model-reply, passed, delivery-reply, refused)
+    lines-of-held =
+        ap (λ r. acceptedLines (replyOf r) b d) (sym kept)
+        ∙ rw (model-reply, delivery-reply, taken) (more-of (received .mark) _)
 
-    module _ (accepted : received .outcome ≡ Accepted) where
-      held : registerAfter (calls.fileDelivery d ∷ calls.fileModel b ∷ []) ≡ received .register
-      unfolding registerAfter after
-      held = rw (is-next, is, none)
-
-      pub lines-of-held : acceptedLines (replyOf (received .register)) b d ≡ printed b d
-      unfolding printed
-      lines-of-held =
-          ap (λ r. acceptedLines (replyOf r) b d) (sym held)
-          ∙ rw (model-reply, passed, delivery-reply, accepted) (more-of (received .mark) _)
-
-      pub held-accepted : verdict b d ≡ Accepted
-      unfolding history lastModel lastDelivery
-      held-accepted =
-          rw (model-reply, passed, delivery-reply, accepted, taken-of (received .mark)) at
-          (right-pair (calls.fileDelivery d ∷ calls.fileModel b ∷ []))
+    pub held-accepted : verdict b d ≡ Accepted
+    unfolding history lastModel lastDelivery
+    held-accepted =
+        rw (model-reply, delivery-reply, taken, taken-of (received .mark)) at
+        (right-pair (calls.fileDelivery d ∷ calls.fileModel b ∷ []))

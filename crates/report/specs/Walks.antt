@@ -1,25 +1,23 @@
--- A buffer with text in it, as the code fills it, and what a line of an entry needs.
-use Prim.Native.Nat.{ℕ, _+_, _*_, _^_, _≤_, _<_}
-use mathlib.Core.List.{List, _++_}
+-- What a printout holds, and the lines of entries as the code walks through them.
+use Prim.Native.Nat.{ℕ, _+_, _*_, _≤_}
+use mathlib.Core.List.{List, []}
 use mathlib.Core.Path.{_≡_}
 use lib.ListN.{length, take}
-use Rattle.ppda.specs.Equations.{f}
-use Rattle.model.specs.Rules.{rulesOf}
-use Rattle.delivery.specs.Numbers.{uppersOf}
-use Rattle.delivery.specs.Walks.{Within}
-use Rattle.rows.specs.Starts.{Starts}
-use Rattle.model.specs.Accepted.{Sized}
+use Rattle.outcome.specs.Reasons.{numberOf}
+use Rattle.outcome.specs.declared.Outcome.{Outcome}
+use Rattle.outcome.specs.declared.Outcome.the-variants.{Accepted, Refused}
+use Rattle.ppda.specs.Equations.{entries}
+use Rattle.register.specs.declared.Register.{Register}
+use Rattle.register.specs.Filing.{cleared, fileModel}
+use Rattle.history.specs.Run.{replyOf}
+use Rattle.lines.specs.Lines.{refusedLine}
+use Rattle.lines.specs.Walks.{tableRoom, marginRoom, chanceRoom, stepsRoom}
 use Rattle.report.specs.declared.Printout.{Printout}
+use Rattle.report.specs.Printed.{chanceLines}
 
--- The bytes of a buffer, more than any report has: 145,152 at most, since no number has more than 20 digits.
+-- The bytes of a buffer: no report of at most 1,024 entries and 128 rows has more.
 abbrev pub room : ℕ
-room = 147456
-
--- After the first `at` bytes of the buffer `before`, the buffer `after` has the text, which ends at byte `end`.
-pub record Put (before after : List ℕ) (at end : ℕ) (text : List ℕ) : Type 0 where
-  pub size : length after ≡ room
-  pub long : end ≡ at + length text
-  pub puts : take end after ≡ take at before ++ text
+room = tableRoom + marginRoom + 1024 * chanceRoom + 128 * stepsRoom
 
 -- The first `length` bytes are the text. What stands beyond them is free.
 pub record Holds (r : Printout) (text : List ℕ) : Type 0 where
@@ -27,9 +25,18 @@ pub record Holds (r : Printout) (text : List ℕ) : Type 0 where
   pub fits : r .length ≤ room
   pub holds : take (r .length) (r .bytes) ≡ text
 
--- The block d has uppers of the model b that stand: each is at least f.
-pub record Standing (b d : List ℕ) (s g : ℕ) (starts : List ℕ) : Type 0 where
-  pub sized : Sized b s g
-  pub starts-at : Starts b g (s * g) starts
-  pub within : Within d (s * g * s) 2097152
-  pub above : (p z q : ℕ) → p < s → z < g → q < s → f (rulesOf b) s (2 ^ 20) (uppersOf s g d) p z q ≤ uppersOf s g d p z q * 2 ^ 36
+-- The lines of the live entries by a register's answers, with u − f(u) by the list in file order.
+abbrev pub chancesBy : Register → List ℕ → ℕ → ℕ → List ℕ
+chancesBy r l s g = chanceLines (replyOf r) (entries s g l) s g
+
+-- ---- filings
+
+-- The line of a refusal.
+abbrev pub refusalOf : Outcome → List ℕ
+refusalOf Accepted = []
+refusalOf (Refused x i k) = refusedLine (numberOf x) i k
+
+-- The register after the model b was filed in an empty one and accepted.
+pub record HoldsModel (r : Register) (b : List ℕ) : Type 0 where
+  pub holding : r ≡ fileModel cleared b .register
+  pub accepted : fileModel cleared b .outcome ≡ Accepted

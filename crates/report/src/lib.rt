@@ -1,8 +1,11 @@
 // What is printed of a model file and a delivery file: the two are filed in an empty register, which is then asked.
 
 use chances::put_chances;
-use delivery::shape::entries;
-use equations::rows::find_starts;
+use gaps::gaps_of;
+use lines::CHANCE_ROOM;
+use lines::MARGIN_ROOM;
+use lines::STEPS_ROOM;
+use lines::TABLE_ROOM;
 use lines::put_margin;
 use lines::put_refused;
 use lines::put_table;
@@ -11,28 +14,28 @@ use model::sizes::records;
 use model::sizes::states;
 use model::sizes::symbols;
 use outcome::Outcome;
-use outcome::Reason;
+use outcome::is_refused;
 use outcome::number;
 use register::Register;
 use steps::put_means;
 
 mod chances; // chances.rt: the lines of the live entries
-mod lines; // lines.rt: one line each
 mod live; // live.rt: how many entries are live
 pub mod self_test; // self_test.rt: the self-test on model W
 mod steps; // steps.rt: the lines of the rows' mean steps
-mod text; // text.rt: text in a buffer
 
 ghost use mathlib.Core.Path.{_≡_};
-ghost use Rattle.outcome.specs.Reasons.{numberOf};
 ghost use Rattle.outcome.specs.declared.Outcome.the-variants.{Accepted};
 ghost use Rattle.certificate.specs.Verdict.{verdict};
 ghost use Rattle.history.specs.Run.{replyOf};
-ghost use Rattle.report.specs.Lines.{refusedLine, acceptedLines, printed};
-ghost use Rattle.report.specs.Walks.{Holds, Standing};
+ghost use Prim.Native.Nat.{_<_};
+ghost use Rattle.ppda.specs.Equations.{entries};
+ghost use Rattle.report.specs.Printed.{linesBy, acceptedLines, printed};
+ghost use Rattle.report.specs.Walks.{room, Holds, HoldsModel, refusalOf};
+ghost use lib.ListN.{length};
 
-// The bytes of a buffer, more than any report has.
-const ROOM: usize = 147456;
+// The bytes of a buffer: no report of at most 1,024 entries and 128 rows has more.
+const ROOM: usize = TABLE_ROOM + MARGIN_ROOM + 1024 * CHANCE_ROOM + 128 * STEPS_ROOM;
 
 // What is to be printed: the first `length` bytes.
 pub struct Printout {
@@ -40,32 +43,40 @@ pub struct Printout {
     pub length: usize,
 }
 
-// A refusal.
-fn refusal(reason: Reason, place: usize, shortfall: i64) -> Printout
-    ensures { λ r. ⌜ Holds r (refusedLine (numberOf reason) place shortfall) ⌝ }
+// An empty buffer.
+fn blank() -> [u8; ROOM]
+    ensures { λ r. ⌜ length r ≡ room ⌝ }
 {
-    let mut bytes = [0u8; ROOM];
+    [0u8; ROOM]
+}
+
+// The line of a refusal; nothing for an accepted file.
+fn refusal(outcome: Outcome) -> Printout
+    ensures { λ r. ⌜ Holds r (refusalOf outcome) ⌝ }
+{
+    let mut bytes = blank();
+    let Outcome::Refused {
+        reason,
+        place,
+        shortfall,
+    } = outcome
+    else {
+        return Printout { bytes, length: 0 };
+    };
     let length = put_refused(&mut bytes, 0, number(reason), place, shortfall);
     Printout { bytes, length }
 }
 
-// What a register shows, where the rows' starts and the block of uppers are at hand.
-fn shown_with(
-    register: Register,
-    model: &[u8],
-    starts: &[u16; 129],
-    uppers: &[u8],
-    s: usize,
-    g: usize,
-) -> Printout
-    requires { ⌜ Standing (now model) (now uppers) s g (now starts) ⌝ }
-    ensures { λ r. ⌜ Holds r (acceptedLines (replyOf register) (now (model .entry)) (now (uppers .entry))) ⌝ }
+// What a register shows, where u − f(u) of the entries and the model's sizes are at hand.
+fn shown_with(register: Register, n: usize, gaps: &[u64; 1024], s: usize, g: usize) -> Printout
+    requires { ⌜ (0 < s) × (s < 9) × (0 < g) × (g < 17) ⌝ }
+    ensures { λ r. ⌜ Holds r (linesBy (replyOf register) n (entries s g (now (gaps .entry))) s g) ⌝ }
 {
-    let mut bytes = [0u8; ROOM];
+    let mut bytes = blank();
     let live = live_entries(register, s, g);
-    let at = put_table(&mut bytes, 0, s, g, records(model), live);
+    let at = put_table(&mut bytes, 0, s, g, n, live);
     let at = put_margin(&mut bytes, at, register.margin());
-    let at = put_chances(&mut bytes, at, register, model, starts, uppers, s, g);
+    let at = put_chances(&mut bytes, at, register, gaps, s, g);
     let length = put_means(&mut bytes, at, register, s, g);
     Printout { bytes, length }
 }
@@ -75,12 +86,24 @@ fn shown(register: Register, model: &[u8], delivery: &[u8]) -> Printout
     requires { ⌜ verdict (now model) (now delivery) ≡ Accepted ⌝ }
     ensures { λ r. ⌜ Holds r (acceptedLines (replyOf register) (now (model .entry)) (now (delivery .entry))) ⌝ }
 {
+    let gaps = gaps_of(model, delivery);
     let s = states(model);
     let g = symbols(model);
-    let mut starts = [0u16; 129];
-    find_starts(model, s, g, &mut starts);
-    let uppers = &delivery[..8 * entries(s, g)];
-    shown_with(register, model, &starts, uppers, s, g)
+    shown_with(register, records(model), &gaps, s, g)
+}
+
+// What is printed of any delivery, where a register holds the model.
+fn delivered(holding: Register, model: &[u8], delivery: &[u8]) -> Printout
+    requires { ⌜ HoldsModel holding (now model) ⌝ }
+    ensures { λ r. ⌜ Holds r (printed (now (model .entry)) (now (delivery .entry))) ⌝ }
+{
+    let received = holding.file_delivery(delivery);
+    let outcome = received.outcome;
+    if is_refused(outcome) {
+        return refusal(outcome);
+    }
+    let register = received.register;
+    shown(register, model, delivery)
 }
 
 // What is printed of any two files.
@@ -89,23 +112,9 @@ pub fn of_files(model: &[u8], delivery: &[u8]) -> Printout
 {
     let filed = Register::empty().file_model(model);
     let outcome = filed.outcome;
-    if let Outcome::Refused {
-        reason,
-        place,
-        shortfall,
-    } = outcome {
-        return refusal(reason, place, shortfall);
+    if is_refused(outcome) {
+        return refusal(outcome);
     }
     let holding = filed.register;
-    let received = holding.file_delivery(delivery);
-    let outcome = received.outcome;
-    if let Outcome::Refused {
-        reason,
-        place,
-        shortfall,
-    } = outcome {
-        return refusal(reason, place, shortfall);
-    }
-    let register = received.register;
-    shown(register, model, delivery)
+    delivered(holding, model, delivery)
 }

@@ -1,21 +1,23 @@
--- `shown`: the first V records of an accepted delivery are uppers that stand, and the lines need no more of it.
-use mathlib.Core.Path.{refl, sym, subst}
-use lib.Seq.{length-take-le}
+-- `shown`: the model's sizes and u − f(u) are those of the files.
+use mathlib.Core.Path.{subst}
 use denote.Ref.{now}
 use borrow.Author.Needs.{needs}
-use Rattle.model.specs.Accepted.{Sized}
-use Rattle.certificate.proofs.Steps.{few, sized-by-verdict}
+use Rattle.equations.specs.Held.{Sized}
+use Rattle.certificate.proofs.Steps.{some-and-few, sized-by-verdict}
 use Rattle.history.specs.Run.{replyOf}
 use Rattle.report.specs.Walks.{Holds}
-use Rattle.report.proofs.Gaps.{block-fits, block-stands, lines-of-block}
+use Rattle.report.proofs.Asked.{lines-said}
 use Rattle.report.proofs.shown.Statement.{statement}
 use Rattle.report.proofs.shown.Tie as tie
 
 sized : (c : tie.After-symbols)
-    → Sized (now (c .before .before .before .before .args .model)) (c .before .states .result) (c .symbols .result)
+    → Sized (now (c .before .before .before .before .before .args .model)) (c .before .states .result) (c .symbols .result)
 sized c =
     let states = c .before in
-    sized-by-verdict _ (states .before .before .before .pre) (states .states .ensures .0) (c .symbols .ensures .0)
+    sized-by-verdict _ (states .before .before .before .before .pre) (states .states .ensures .0) (c .symbols .ensures .0)
+
+gaps-of-requires : tie.Need-gaps-of-requires
+gaps-of-requires c κs = search needs
 
 states-requires : tie.Need-states-requires
 states-requires c κs = search needs
@@ -23,44 +25,27 @@ states-requires c κs = search needs
 symbols-requires : tie.Need-symbols-requires
 symbols-requires c κs = search needs
 
-find-starts-requires : tie.Need-find-starts-requires
-find-starts-requires c κs = (sized (c .before), refl)
-
-entries-requires : tie.Need-entries-requires
-entries-requires c κs = few (sized (c .before .before))
-
-mul-uppers : tie.Need-mul-uppers
-mul-uppers c = search needs
-
-slice-aggregate-uppers : tie.Need-slice-aggregate-uppers
-slice-aggregate-uppers c =
-    let entries = c .before in
-    let symbols = entries .before .before .before in
-    sym (length-take-le _ _ (block-fits _ (sized symbols) (symbols .before .before .before .before .pre) (entries .entries .ensures .0)))
+records-requires : tie.Need-records-requires
+records-requires c κs = search needs
 
 shown-with-requires : tie.Need-shown-with-requires
-shown-with-requires c κs =
-    let entries = c .before .before in
-    let starts = entries .before in
-    let symbols = starts .before .before in
-    block-stands _ (sized symbols) (symbols .before .before .before .before .pre) (entries .entries .ensures .0) (starts .find-starts .ensures)
+shown-with-requires c κs = some-and-few (sized (c .before .before))
 
 returns : tie.Need-returns
 returns c =
-    let entries = c .before .before .before in
-    let symbols = entries .before .before .before in
-    let start = symbols .before .before .before .before in
-    subst (Holds _) (lines-of-block _ (sized symbols) (start .pre) (entries .entries .ensures .0) (replyOf (start .args .register))) (c .shown-with .ensures)
+    let records = c .before .before in
+    let symbols = records .before in
+    let gaps = symbols .before .before in
+    let register = gaps .before .before .before .args .register in
+    subst (Holds _) (lines-said (replyOf register) _ (gaps .gaps-of .result) (sized symbols) (records .records .ensures) (gaps .gaps-of .ensures)) (c .shown-with .ensures)
 
 pub shown-spec : {M : Type 1} → statement M
 shown-spec =
     tie.close
     (tie.spec
+    gaps-of-requires
     states-requires
     symbols-requires
-    find-starts-requires
-    entries-requires
-    mul-uppers
-    slice-aggregate-uppers
+    records-requires
     shown-with-requires
     returns)

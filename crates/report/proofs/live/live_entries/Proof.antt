@@ -1,42 +1,93 @@
--- `live_entries`: the count is of the live entries of the states passed.
-use Prim.Native.Nat.{_-_}
+-- `live_entries`: the count is of the entries passed that are live.
+use Prim.Native.Nat.{_*_, _-_, _≤_}
+use native.Mathlib.Omega.{arith}
+use mathlib.Core.Logic.{⊎-elim}
+use mathlib.Core.Path.{_≡_, sym, ap, _∙_}
 use borrow.Author.Needs.{needs}
+use Rattle.ppda.specs.Sums.{bit, sumTo}
 use Rattle.history.specs.Run.{replyOf}
-use Rattle.report.specs.Lines.{liveOfState, liveEntries}
-use Rattle.report.proofs.Counts.{Counted, counted-none, counted-more, counted-all}
+use Rattle.report.specs.Printed.{byEntry, liveAt, liveEntries}
+use Rattle.report.proofs.Counts.{Counted, counted-none, counted-more, counted-same, counted-all}
+use Rattle.report.proofs.Asked.{live-said}
 use Rattle.report.proofs.live.live_entries.Statement.{statement}
 use Rattle.report.proofs.live.live_entries.Tie as tie
 
 abbrev Inv-loop : tie.InvT-loop
-Inv-loop register s g count₀ p₀ count p = Counted (liveOfState (replyOf register) s g) 128 s count p
+Inv-loop register s g n count₀ e₀ count e =
+    (n ≡ s * g * s) × (n ≤ 1024) × Counted (byEntry s g (liveAt (replyOf register))) 1 n count e
 
 abbrev μ-loop : tie.MeasureT-loop
-μ-loop register s g count₀ p₀ count p = s - p
+μ-loop register s g n count₀ e₀ count e = n - e
+
+entries-requires : tie.Need-entries-requires Inv-loop μ-loop
+entries-requires c κs = search needs
 
 loop-holds : tie.Need-loop-holds Inv-loop μ-loop
-loop-holds c = counted-none _ _ _
+loop-holds c = (c .entries .ensures .0, c .entries .ensures .1, counted-none _ _ _)
 
-live-of-state-requires : tie.Need-live-of-state-requires Inv-loop μ-loop
-live-of-state-requires c κs = search needs
+div-row : tie.Need-div-row Inv-loop μ-loop
+div-row c = search needs
+
+div-live : tie.Need-div-live Inv-loop μ-loop
+div-live c = search needs
+
+rem-live : tie.Need-rem-live Inv-loop μ-loop
+rem-live c = search needs
+
+rem-live-2 : tie.Need-rem-live-2 Inv-loop μ-loop
+rem-live-2 c = search needs
+
+live-requires : tie.Need-live-requires Inv-loop μ-loop
+live-requires c κs = search needs
+
+is-live-requires : tie.Need-is-live-requires Inv-loop μ-loop
+is-live-requires c κs = search needs
 
 add-count : tie.Need-add-count Inv-loop μ-loop
 add-count c = search needs
 
-add-p : tie.Need-add-p Inv-loop μ-loop
-add-p c = search needs
+add-e : tie.Need-add-e Inv-loop μ-loop
+add-e c = search needs
 
 loop-less : tie.Need-loop-less Inv-loop μ-loop
 loop-less c = search needs
 
 loop-again : tie.Need-loop-again Inv-loop μ-loop
 loop-again c =
-    counted-more (c .before .before .loop .inv) (c .before .loop-test .taken) (c .live-of-state .ensures .0) (c .live-of-state .ensures .1)
+    let said = c .before in
+    let turn = said .before .before in
+    let (all, few, so) = turn .before .loop .inv in
+    let is = live-said _ _ _ _ (said .before .live .ensures) (said .is-live .ensures) in (
+      all,
+      few,
+      ⊎-elim
+          (λ w. rw (w .1) (counted-more so (turn .loop-test .taken) (ap bit (sym (w .0 .taken) ∙ is)) (omega arith)))
+          (λ w. rw (w .1) (counted-same so (turn .loop-test .taken) (ap bit (sym (w .0 .left) ∙ is))))
+          (c .if1 .came),
+    )
 
 returns : tie.Need-returns Inv-loop μ-loop
 unfolding liveEntries
-returns c = counted-all (c .before .loop .inv) (c .loop-test .left) .0
+returns c =
+    let (all, few, so) = c .before .loop .inv in
+    counted-all so (c .loop-test .left) .0 ∙ ap (sumTo _) all
 
 pub live-entries-spec : {M : Type 1} → statement M
 live-entries-spec =
     tie.close
-    (tie.spec Inv-loop μ-loop loop-holds live-of-state-requires add-count add-p loop-less loop-again returns)
+    (tie.spec
+    Inv-loop
+    μ-loop
+    entries-requires
+    loop-holds
+    div-row
+    div-live
+    rem-live
+    rem-live-2
+    live-requires
+    is-live-requires
+    add-count
+    add-e
+    loop-less
+    loop-again
+    returns)

@@ -1,0 +1,2 @@
+-- Lines of a report: the table of lines holds.
+pub mod Edges

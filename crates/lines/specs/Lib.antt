@@ -1,0 +1,4 @@
+-- Lines of a report, and a table of lines byte by byte. `Walks` serves the contracts of the code alone.
+pub mod Lines
+pub mod Edges
+pub mod Walks

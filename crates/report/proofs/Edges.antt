@@ -1,9 +1,0 @@
--- The table of lines holds, computed.
-use mathlib.Core.List.{map}
-use mathlib.Core.Path.{_≡_, refl}
-use Rattle.report.specs.Decimal.{digitsTo, decimal}
-use Rattle.report.specs.Edges.{madeOf, bytesOf, lines}
-
-pub lines-printed : map madeOf lines ≡ map bytesOf lines
-unfolding decimal digitsTo
-lines-printed = refl
