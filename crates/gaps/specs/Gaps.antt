@@ -1,13 +1,15 @@
 -- u − f(u) of a delivery's uppers u.
-use Prim.Native.Nat.{ℕ, _-_, _*_, _^_}
+use Prim.Native.Nat.{ℕ}
 use mathlib.Core.List.{List}
-use Rattle.ppda.specs.Equations.{Vector, f}
+use Rattle.ppda.specs.Equations.{Vector, entries, Same}
+use Rattle.model.specs.declared.sizes.Sizes.{Sizes}
 use Rattle.model.specs.Records.{statesOf, symbolsOf}
-use Rattle.model.specs.Rules.{rulesOf}
-use Rattle.delivery.specs.Numbers.{uppersOf}
+use Rattle.inequalities.specs.Shares.{gapAt}
 
 -- u − f(u) in 1/2^56, for the uppers u of the delivery d for the model b.
-unfoldable pub gapOf : List ℕ → List ℕ → Vector
-gapOf b d p z q =
-    uppersOf (statesOf b) (symbolsOf b) d p z q * 2 ^ 36
-    - f (rulesOf b) (statesOf b) (2 ^ 20) (uppersOf (statesOf b) (symbolsOf b) d) p z q
+abbrev pub gapOf : List ℕ → List ℕ → Vector
+gapOf b d = gapAt b (statesOf b) (symbolsOf b) d
+
+-- The list has u − f(u) of the entries, in file order.
+abbrev pub Gaps : List ℕ → Sizes → List ℕ → List ℕ → Type 0
+Gaps b n d l = Same (n .states) (n .symbols) (entries (n .states) (n .symbols) l) (gapAt b (n .states) (n .symbols) d)

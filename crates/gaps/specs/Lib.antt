@@ -1,3 +1,2 @@
--- u − f(u) of a delivery. `Walks` serves the contracts of the code alone.
+-- u − f(u) of a delivery.
 pub mod Gaps
-pub mod Walks

@@ -6,36 +6,40 @@ use lib.ListN.{length, getD, length-set}
 use denote.Ref.{now}
 use borrow.Author.Needs.{needs}
 use Rattle.ppda.proofs.Places.{row-of}
-use Rattle.equations.proofs.Ranges.{set-more, few-states, few-symbols, some-states}
+use Rattle.ppda.specs.Order.{rowsIn, entriesIn}
+use Rattle.model.specs.Format.{mostEntries}
+use Rattle.model.proofs.Accepted.{sized-fits}
+use Rattle.rows.proofs.Ranges.{set-more}
 use Rattle.gaps.proofs.Differences.{gapBy, gaps-filled}
 use Rattle.gaps.proofs.gaps_with.Statement.{statement}
 use Rattle.gaps.proofs.gaps_with.Tie as tie
 
 abbrev Inv-loop : tie.InvT-loop
-Inv-loop model starts uppers s g n gaps₀ e₀ gaps e =
-    (e ≤ n) × (n ≡ s * g * s) × (n ≤ 1024) × (length gaps ≡ 1024) × ((i : ℕ) → i < e → getD gaps i 0 ≡ gapBy model uppers s g i)
+Inv-loop model starts uppers n entries gaps₀ e₀ gaps e =
+    (e ≤ entries) × (entries ≡ entriesIn (n .states) (n .symbols)) × (entries ≤ mostEntries) × (length gaps ≡ mostEntries)
+    × ((i : ℕ) → i < e → getD gaps i 0 ≡ gapBy model n uppers i)
 
 abbrev μ-loop : tie.MeasureT-loop
-μ-loop model starts uppers s g n gaps₀ e₀ gaps e = n - e
+μ-loop model starts uppers n entries gaps₀ e₀ gaps e = entries - e
 
 entries-requires : tie.Need-entries-requires Inv-loop μ-loop
-entries-requires c κs = let sized = c .before .before .pre .sized in (few-states sized, few-symbols sized)
+entries-requires c κs = sized-fits (c .before .before .pre .indexed .sized)
 
 loop-holds : tie.Need-loop-holds Inv-loop μ-loop
 loop-holds c = (search needs, c .entries .ensures .0, c .entries .ensures .1, refl, λ i l. absurd (omega arith))
 
 div-gap : tie.Need-div-gap Inv-loop μ-loop
-div-gap c = some-states (c .before .before .before .before .before .pre .sized)
+div-gap c = sized-fits (c .before .before .before .before .before .before .pre .indexed .sized) .some-states
 
 rem-gap : tie.Need-rem-gap Inv-loop μ-loop
-rem-gap c = some-states (c .before .before .before .before .before .pre .sized)
+rem-gap c = sized-fits (c .before .before .before .before .before .before .before .pre .indexed .sized) .some-states
 
 gap-requires : tie.Need-gap-requires Inv-loop μ-loop
 gap-requires c κs =
-    let start = c .before .before .before .before .before in
+    let start = c .before .before .before .before .before .before .before in
     let standing = start .pre in
-    let s = start .args .s in
-    let (hr, hq, is) = row-of (s * start .args .g) s (c .before .loop .e) (some-states (standing .sized)) (omega arith) in
+    let n = start .args .n in
+    let (hr, hq, is) = row-of (rowsIn (n .states) (n .symbols)) (n .states) (c .before .before .before .loop .e) (sized-fits (standing .indexed .sized) .some-states) (omega arith) in
     (standing, hr, hq)
 
 mul-gaps : tie.Need-mul-gaps Inv-loop μ-loop
@@ -52,20 +56,20 @@ loop-less c = search needs
 
 loop-again : tie.Need-loop-again Inv-loop μ-loop
 loop-again c =
-    let loop = c .before .before .loop in
-    let args = c .before .before .before .before .before .before .args in (
+    let loop = c .before .before .before .before .loop in
+    let args = c .before .before .before .before .before .before .before .before .args in (
       omega arith,
       search needs,
       search needs,
       simp length-set (loop .inv .3),
-      set-more (λ i a. a ≡ gapBy (now (args .model)) (now (args .uppers)) (args .s) (args .g) i) (loop .gaps) (omega arith) (loop .inv .4) (c .gap .ensures),
+      set-more (λ i a. a ≡ gapBy (now (args .model)) (args .n) (now (args .uppers)) i) (loop .gaps) (omega arith) (loop .inv .4) (c .gap .ensures),
     )
 
 returns : tie.Need-returns Inv-loop μ-loop
 returns c =
     let loop = c .before .loop in
     let args = c .before .before .before .before .before .args in
-    gaps-filled (now (args .model)) (now (args .uppers)) (loop .gaps) (λ e l. loop .inv .4 e (omega arith))
+    gaps-filled (now (args .model)) (now (args .uppers)) (loop .gaps) (args .n) (λ e l. loop .inv .4 e (omega arith))
 
 pub gaps-with-spec : {M : Type 1} → statement M
 gaps-with-spec =
