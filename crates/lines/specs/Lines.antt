@@ -2,8 +2,8 @@
 use Prim.Native.Nat.{ℕ}
 use mathlib.Core.Bool.{Bool, false}
 use mathlib.Core.List.{List, [], _∷_, _++_}
-use lib.Dec.{eqb}
 use lib.IntN.{ℤ}
+use Rattle.ppda.specs.Live.{isLive}
 use Rattle.text.specs.Decimal.{decimal, signed}
 use Rattle.text.specs.Texts.{fields}
 use Rattle.history.specs.Calls.{Reply, cleared, accepted, known, new, value, refused}
@@ -54,13 +54,13 @@ abbrev pub refusedLine : ℕ → ℕ → ℤ → List ℕ
 refusedLine n i k = refusedWord ++ fields (decimal n ∷ decimal i ∷ signed k ∷ [])
 
 -- Whether the reply to a question on a live mark says that the entry is live.
-abbrev pub isLive : Reply → Bool
-isLive (value n) = eqb n 1
-isLive cleared = false
-isLive accepted = false
-isLive known = false
-isLive new = false
-isLive (refused n i k) = false
+abbrev pub saysLive : Reply → Bool
+saysLive (value n) = isLive n
+saysLive cleared = false
+saysLive accepted = false
+saysLive known = false
+saysLive new = false
+saysLive (refused n i k) = false
 
 -- The line of a row, if there are mean steps.
 abbrev pub stepsBy : ℕ → ℕ → Reply → List ℕ

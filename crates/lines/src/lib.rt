@@ -1,5 +1,6 @@
 // The lines of a report, each put at `at`, and what they show of a register's answers.
 
+use live::exits::is_live;
 use register::answer::Answer;
 use text::put;
 use text::put_byte;
@@ -13,7 +14,7 @@ ghost use lib.ListN.{length};
 ghost use Rattle.text.specs.Walks.{Put};
 ghost use Rattle.history.specs.Run.{answerReply};
 ghost use Rattle.lines.specs.Walks.{tableRoom, marginRoom, refusedRoom, chanceRoom, stepsRoom, chanceText};
-ghost use Rattle.lines.specs.Lines.{shown, isLive, tableLine, marginLine, stepsBy, refusedLine};
+ghost use Rattle.lines.specs.Lines.{shown, saysLive, tableLine, marginLine, stepsBy, refusedLine};
 
 // The most bytes of a line: its word, its fields, each a space and at most 20 digits, and its end.
 pub const TABLE_ROOM: usize = 5 + 4 * 21 + 1;
@@ -36,11 +37,11 @@ pub struct Chance {
 }
 
 // Whether an answer on a live mark says that the entry is live.
-pub fn is_live(answer: Answer) -> bool
-    ensures { λ r. ⌜ r ≡ isLive (answerReply answer) ⌝ }
+pub fn says_live(answer: Answer) -> bool
+    ensures { λ r. ⌜ r ≡ saysLive (answerReply answer) ⌝ }
 {
     match answer {
-        Answer::Value(n) => n == 1,
+        Answer::Value(n) => is_live(n),
         Answer::Refused { .. } => false,
     }
 }

@@ -1,5 +1,5 @@
 -- The order of files: rows ascend by (p, z), and entries by (p, z, q) (document 01, "Deliveries").
-use Prim.Native.Nat.{ℕ, _+_, _*_, _<_}
+use Prim.Native.Nat.{ℕ, _+_, _*_, _<_, _/_, _%_}
 
 -- How many rows (p, z) a model with s states and g symbols has, and V, how many entries (p, z, q).
 abbrev pub rowsIn : ℕ → ℕ → ℕ
@@ -24,3 +24,11 @@ AtRows s g P = (p z : ℕ) → p < s → z < g → P p z
 
 abbrev pub AtEntries : ℕ → ℕ → (ℕ → ℕ → ℕ → Type 0) → Type 0
 AtEntries s g P = (p z q : ℕ) → p < s → z < g → q < s → P p z q
+
+-- What h says of row number k of a model with g symbols, which is (k / g, k % g): rows ascend in the order of p and Z.
+abbrev pub byRow : {A : Type 0} → ℕ → (ℕ → ℕ → A) → ℕ → A
+byRow g h k = h (k / g) (k % g)
+
+-- What h says of entry number e of a model with s states, which is exit e % s of row number e / s: entries ascend in the order of p, Z and q.
+abbrev pub byEntry : {A : Type 0} → ℕ → ℕ → (ℕ → ℕ → ℕ → A) → ℕ → A
+byEntry s g h e = byRow g h (e / s) (e % s)

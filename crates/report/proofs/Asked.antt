@@ -7,28 +7,28 @@ use mathlib.Core.Path.{_≡_, ap, _∙_}
 use lib.ListN.{length, getD}
 use Rattle.text.specs.Walks.{Put}
 use Rattle.text.proofs.Puts.{put-then, join-cong}
-use Rattle.ppda.specs.Equations.{Vector, entries}
+use Rattle.ppda.specs.Order.{entryAt, entriesIn, rowsIn, byEntry}
+use Rattle.ppda.specs.Equations.{Vector, entries, Same}
 use Rattle.ppda.proofs.Places.{row-of}
 use Rattle.model.specs.Records.{recordsOf, statesOf, symbolsOf}
-use Rattle.equations.specs.Held.{Sized, Same}
-use Rattle.equations.proofs.Ranges.{some-states, some-symbols}
+use Rattle.model.specs.declared.sizes.Sizes.{Sizes}
+use Rattle.model.specs.Sizes.{sizesOf, Fits}
 use Rattle.register.specs.declared.Register.{Register}
 use Rattle.register.specs.declared.answer.Answer.{Answer}
 use Rattle.register.specs.Questions.{upperIn, lowerIn, marginIn, liveIn}
 use Rattle.history.specs.Calls.{Call, Reply, live}
 use Rattle.history.specs.Run.{answerReply, replyOf}
 use Rattle.report.specs.declared.Printout.{Printout}
-use Rattle.gaps.specs.Walks.{Gaps}
-use Rattle.report.specs.Walks.{room, Holds}
-use Rattle.gaps.specs.Gaps.{gapOf}
-use Rattle.lines.specs.Lines.{tableLine, marginLine, chanceLine, isLive}
-use Rattle.report.specs.Printed.{byEntry, liveEntries, chanceOf, chanceAt, chanceLines, stepsLines, linesBy, acceptedLines}
+use Rattle.report.specs.Walks.{room, Holds, linesWith}
+use Rattle.gaps.specs.Gaps.{gapOf, Gaps}
+use Rattle.lines.specs.Lines.{tableLine, marginLine, chanceLine, saysLive}
+use Rattle.report.specs.Printed.{liveEntries, chanceOf, chanceAt, chanceLines, stepsLines, linesBy, acceptedLines}
 
-module _ (r : Register) (p z q : ℕ) {a : Answer} {t : Bool} (is : a ≡ liveIn r p z q) (said : t ≡ isLive (answerReply a)) where
+module _ (r : Register) (p z q : ℕ) {a : Answer} {t : Bool} (is : a ≡ liveIn r p z q) (said : t ≡ saysLive (answerReply a)) where
   -- Whether an entry is live.
-  pub live-said : t ≡ isLive (replyOf r (live p z q))
+  pub live-said : t ≡ saysLive (replyOf r (live p z q))
   unfolding replyOf
-  live-said = said ∙ ap (λ a. isLive (answerReply a)) is
+  live-said = said ∙ ap (λ a. saysLive (answerReply a)) is
 
   -- Its line.
   pub chance-said : (gap : ℕ) {l u : Answer} → l ≡ lowerIn r p z q → u ≡ upperIn r p z q
@@ -37,7 +37,7 @@ module _ (r : Register) (p z q : ℕ) {a : Answer} {t : Bool} (is : a ≡ liveIn
   chance-said gap is-l is-u = rw (said, is, is-l, is-u)
 
 -- Entry number e is the entry at place e.
-pub entry-number : (s g e : ℕ) → (e / s / g * g + e / s % g) * s + e % s ≡ e
+pub entry-number : (s g e : ℕ) → byEntry s g (entryAt s g) e ≡ e
 entry-number s g e = ap (λ k. k * s + e % s) (div-add-mod' (e / s) g) ∙ div-add-mod' e s
 
 pub chance-by-number : (ask : Call → Reply) (l : List ℕ) (s g e : ℕ) {t : List ℕ}
@@ -51,22 +51,21 @@ put-holds size p fits = record { size = p .size ∙ size; fits = fits; holds = p
 -- ---- all lines
 
 -- The same numbers, the same lines.
-chances-same : (ask : Call → Reply) {s g : ℕ} (v u : Vector) → 0 < s → 0 < g → Same s g v u → chanceLines ask v s g ≡ chanceLines ask u s g
+chances-same : (ask : Call → Reply) {s g : ℕ} (v u : Vector) → Fits s g → Same s g v u → chanceLines ask v s g ≡ chanceLines ask u s g
 unfolding chanceLines
-chances-same ask {s} {g} v u some-s some-g same =
-    join-cong _ _ (s * g * s) (λ e l.
-    let (hr, hq, is-entry) = row-of (s * g) s e some-s l in
-    let (hp, hz, is-row) = row-of s g (e / s) some-g hr in
+chances-same ask {s} {g} v u fits same =
+    join-cong _ _ (entriesIn s g) (λ e l.
+    let (hr, hq, is-entry) = row-of (rowsIn s g) s e (fits .some-states) l in
+    let (hp, hz, is-row) = row-of s g (e / s) (fits .some-symbols) hr in
     ap (chanceOf ask (e / s / g) (e / s % g) (e % s)) (same _ _ _ hp hz hq))
 
 -- All lines, where the sizes and u − f(u) are those of the files.
-pub lines-said : (ask : Call → Reply) {b : List ℕ} (d l : List ℕ) {s g n : ℕ} → Sized b s g → n ≡ recordsOf b
-    → Gaps b d (statesOf b) (symbolsOf b) l → linesBy ask n (entries s g l) s g ≡ acceptedLines ask b d
+pub lines-said : (r : Register) (b d l : List ℕ) {n : Sizes} {records : ℕ} → n ≡ sizesOf b → Fits (n .states) (n .symbols)
+    → records ≡ recordsOf b → Gaps b (sizesOf b) d l → linesWith r records l n ≡ acceptedLines (replyOf r) b d
 unfolding linesBy
-lines-said ask {b} d l sized is-n gaps =
-    let same = chances-same ask (entries (statesOf b) (symbolsOf b) l) (gapOf b d) (rw (← sized .states) (some-states sized))
-    (rw (← sized .symbols) (some-symbols sized)) gaps in
-    rw (is-n, sized .states, sized .symbols, same)
+lines-said r b d l is fits is-records gaps =
+    let same = chances-same (replyOf r) (entries (statesOf b) (symbolsOf b) l) (gapOf b d) (rw is at fits) gaps in
+    rw (is-records, is, same)
 
 -- The line of the sizes, of the margin, the lines of the live entries and of the rows, one after the other.
 pub lines-put : (r : Register) (v : Vector) (s g n : ℕ) {alive : ℕ} {m : Answer} {a b c d e : List ℕ} {at i j k end : ℕ}

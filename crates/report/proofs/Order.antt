@@ -8,11 +8,12 @@ use mathlib.Core.Path.{_≡_, refl, ap, ap₂, _∙_}
 use Rattle.text.specs.Texts.{joinTo}
 use Rattle.text.proofs.Puts.{join-cong, join-flat}
 use Rattle.ppda.specs.Sums.{sumTo}
+use Rattle.ppda.specs.Order.{byRow}
 use Rattle.ppda.specs.Equations.{Vector}
 use Rattle.ppda.proofs.Places.{row-at}
 use Rattle.ppda.proofs.Sums.{sumTo-cong}
 use Rattle.history.specs.Calls.{Call, Reply}
-use Rattle.report.specs.Printed.{byRow, byEntry, liveAt, liveEntries, chanceAt, chanceLines, stepsAt, stepsLines}
+use Rattle.report.specs.Printed.{liveAt, liveEntries, chanceAt, chanceLines, stepsAt, stepsLines}
 
 -- ---- lines
 

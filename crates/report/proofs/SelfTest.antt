@@ -12,7 +12,7 @@ use Rattle.model.specs.W.{wFile}
 use Rattle.model.specs.Verdict.{wholeRecords, modelTests, modelVerdict}
 use Rattle.register.specs.declared.Register.{Register}
 use Rattle.register.specs.declared.Filed.{Filed}
-use Rattle.register.specs.Held.{holdsModel, noModel}
+use Rattle.held.specs.Held.{holdsModel, noModel}
 use Rattle.register.specs.Filing.{cleared, fileModel}
 use Rattle.history.specs.Calls as calls
 use Rattle.history.specs.Run.{modelReply, replyOf, replies}

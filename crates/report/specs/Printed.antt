@@ -1,45 +1,38 @@
 -- What the program prints of two files (document 01, "Model W, and what the program prints"), from the replies of a register in which they were
 -- filed.
-use Prim.Native.Nat.{ℕ, _*_, _/_, _%_}
+use Prim.Native.Nat.{ℕ}
 use mathlib.Core.Bool.{cond}
 use mathlib.Core.List.{List, [], _∷_, _++_}
 use Rattle.text.specs.Texts.{joinTo}
 use Rattle.ppda.specs.Sums.{bit, sumTo}
+use Rattle.ppda.specs.Order.{rowsIn, entriesIn, byRow, byEntry}
 use Rattle.ppda.specs.Equations.{Vector}
 use Rattle.model.specs.Records.{recordsOf, statesOf, symbolsOf}
 use Rattle.history.specs.Calls.{Call, fileModel, fileDelivery, upper, lower, meanSteps, margin, live, Reply, cleared, accepted, known, new, value, refused}
 use Rattle.history.specs.Run.{replyTo}
 use Rattle.gaps.specs.Gaps.{gapOf}
-use Rattle.lines.specs.Lines.{tableLine, marginLine, chanceLine, refusedLine, isLive, stepsBy}
+use Rattle.lines.specs.Lines.{tableLine, marginLine, chanceLine, refusedLine, saysLive, stepsBy}
 
 -- ---- what is printed of accepted files
 
--- What h says of row number k of a model with g symbols, which is (k / g, k % g): rows ascend in the order of p and Z.
-abbrev pub byRow : {A : Type 0} → ℕ → (ℕ → ℕ → A) → ℕ → A
-byRow g h k = h (k / g) (k % g)
-
--- What h says of entry number e of a model with s states, which is exit e % s of row number e / s: entries ascend in the order of p, Z and q.
-abbrev pub byEntry : {A : Type 0} → ℕ → ℕ → (ℕ → ℕ → ℕ → A) → ℕ → A
-byEntry s g h e = byRow g h (e / s) (e % s)
-
 -- Whether an entry is live, as a number, and how many entries are, by the replies that `ask` gives.
 abbrev pub liveAt : (Call → Reply) → ℕ → ℕ → ℕ → ℕ
-liveAt ask p z q = bit (isLive (ask (live p z q)))
+liveAt ask p z q = bit (saysLive (ask (live p z q)))
 
 unfoldable pub liveEntries : (Call → Reply) → ℕ → ℕ → ℕ
-liveEntries ask s g = sumTo (byEntry s g (liveAt ask)) (s * g * s)
+liveEntries ask s g = sumTo (byEntry s g (liveAt ask)) (entriesIn s g)
 
 -- The line of an entry with the given u − f(u), if it is live.
 unfoldable pub chanceOf : (Call → Reply) → ℕ → ℕ → ℕ → ℕ → List ℕ
 chanceOf ask p z q gap =
-    cond (isLive (ask (live p z q))) (chanceLine p z q (ask (lower p z q)) (ask (upper p z q)) gap) []
+    cond (saysLive (ask (live p z q))) (chanceLine p z q (ask (lower p z q)) (ask (upper p z q)) gap) []
 
 abbrev pub chanceAt : (Call → Reply) → Vector → ℕ → ℕ → ℕ → List ℕ
 chanceAt ask gap p z q = chanceOf ask p z q (gap p z q)
 
 -- The lines of the live entries, in file order.
 unfoldable pub chanceLines : (Call → Reply) → Vector → ℕ → ℕ → List ℕ
-chanceLines ask gap s g = joinTo (byEntry s g (chanceAt ask gap)) (s * g * s)
+chanceLines ask gap s g = joinTo (byEntry s g (chanceAt ask gap)) (entriesIn s g)
 
 -- The line of a row, if there are mean steps.
 abbrev pub stepsAt : (Call → Reply) → ℕ → ℕ → List ℕ
@@ -47,7 +40,7 @@ stepsAt ask p z = stepsBy p z (ask (meanSteps p z))
 
 -- The lines of the rows, in file order.
 unfoldable pub stepsLines : (Call → Reply) → ℕ → ℕ → List ℕ
-stepsLines ask s g = joinTo (byRow g (stepsAt ask)) (s * g)
+stepsLines ask s g = joinTo (byRow g (stepsAt ask)) (rowsIn s g)
 
 -- All lines of a model with s states, g symbols and n records, with u − f(u) by `gap`.
 unfoldable pub linesBy : (Call → Reply) → ℕ → Vector → ℕ → ℕ → List ℕ

@@ -7,17 +7,19 @@ use Rattle.outcome.specs.Reasons.{numberOf}
 use Rattle.outcome.specs.declared.Outcome.{Outcome}
 use Rattle.outcome.specs.declared.Outcome.the-variants.{Accepted, Refused}
 use Rattle.ppda.specs.Equations.{entries}
+use Rattle.model.specs.declared.sizes.Sizes.{Sizes}
+use Rattle.model.specs.Format.{mostRows, mostEntries}
 use Rattle.register.specs.declared.Register.{Register}
 use Rattle.register.specs.Filing.{cleared, fileModel}
 use Rattle.history.specs.Run.{replyOf}
 use Rattle.lines.specs.Lines.{refusedLine}
 use Rattle.lines.specs.Walks.{tableRoom, marginRoom, chanceRoom, stepsRoom}
 use Rattle.report.specs.declared.Printout.{Printout}
-use Rattle.report.specs.Printed.{chanceLines}
+use Rattle.report.specs.Printed.{chanceLines, linesBy}
 
--- The bytes of a buffer: no report of at most 1,024 entries and 128 rows has more.
+-- The bytes of a buffer: no report has more lines, nor longer ones.
 abbrev pub room : ℕ
-room = tableRoom + marginRoom + 1024 * chanceRoom + 128 * stepsRoom
+room = tableRoom + marginRoom + mostEntries * chanceRoom + mostRows * stepsRoom
 
 -- The first `length` bytes are the text. What stands beyond them is free.
 pub record Holds (r : Printout) (text : List ℕ) : Type 0 where
@@ -28,6 +30,10 @@ pub record Holds (r : Printout) (text : List ℕ) : Type 0 where
 -- The lines of the live entries by a register's answers, with u − f(u) by the list in file order.
 abbrev pub chancesBy : Register → List ℕ → ℕ → ℕ → List ℕ
 chancesBy r l s g = chanceLines (replyOf r) (entries s g l) s g
+
+-- All lines by a register's answers, with the number of records and the same list.
+abbrev pub linesWith : Register → ℕ → List ℕ → Sizes → List ℕ
+linesWith r records l n = linesBy (replyOf r) records (entries (n .states) (n .symbols) l) (n .states) (n .symbols)
 
 -- ---- filings
 

@@ -1,14 +1,17 @@
 // The lines of the live entries, in file order.
 
-use delivery::shape::entries;
 use lines::Chance;
-use lines::is_live;
 use lines::put_chance;
+use lines::says_live;
+use model::format::MOST_ENTRIES;
+use model::sizes::Sizes;
 use register::Register;
 ghost use mathlib.Core.Path.{_≡_};
-ghost use Prim.Native.Nat.{_+_, _*_, _≤_, _<_};
+ghost use Prim.Native.Nat.{_+_, _*_, _≤_};
 ghost use lib.ListN.{length};
 ghost use Rattle.text.specs.Walks.{Put};
+ghost use Rattle.model.specs.Format.{mostEntries};
+ghost use Rattle.model.specs.Sizes.{Fits};
 ghost use Rattle.history.specs.Run.{replyOf};
 ghost use Rattle.lines.specs.Walks.{chanceRoom, chanceText};
 ghost use Rattle.report.specs.Printed.{chanceOf};
@@ -18,7 +21,7 @@ ghost use Rattle.report.specs.Walks.{chancesBy};
 fn asked(register: Register, p: usize, z: usize, q: usize, gap: u64) -> Chance
     ensures { λ r. ⌜ chanceText r ≡ chanceOf (replyOf register) p z q gap ⌝ }
 {
-    let live = is_live(register.live(p, z, q));
+    let live = says_live(register.live(p, z, q));
     let lower = register.lower(p, z, q);
     let upper = register.upper(p, z, q);
     Chance {
@@ -37,19 +40,24 @@ pub(crate) fn put_chances(
     out: &mut [u8],
     at: usize,
     register: Register,
-    gaps: &[u64; 1024],
-    s: usize,
-    g: usize,
+    gaps: &[u64; MOST_ENTRIES],
+    n: Sizes,
 ) -> usize
-    requires { ⌜ (at + 1024 * chanceRoom ≤ length (now out)) × (0 < s) × (s < 9) × (0 < g) × (g < 17) ⌝ }
-    ensures { λ r. ⌜ Put (now (out .entry)) (now (out .exit)) at r (chancesBy register (now (gaps .entry)) s g) × (r ≤ at + 1024 * chanceRoom) ⌝ }
+    requires fits { ⌜ Fits (n .states) (n .symbols) ⌝ }
+    requires room { ⌜ at + mostEntries * chanceRoom ≤ length (now out) ⌝ }
+    ensures { λ r. ⌜ Put (now (out .entry)) (now (out .exit)) at r (chancesBy register (now (gaps .entry)) (n .states) (n .symbols)) ⌝ }
+    ensures { λ r. ⌜ r ≤ at + mostEntries * chanceRoom ⌝ }
 {
-    let n = entries(s, g);
+    let entries = n.entries();
     let mut at = at;
     let mut e = 0;
-    while e < n {
-        let row = e / s;
-        at = put_chance(out, at, asked(register, row / g, row % g, e % s, gaps[e]));
+    while e < entries {
+        let row = e / n.states;
+        at = put_chance(
+            out,
+            at,
+            asked(register, row / n.symbols, row % n.symbols, e % n.states, gaps[e]),
+        );
         e += 1;
     }
     at

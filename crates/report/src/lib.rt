@@ -10,9 +10,11 @@ use lines::put_margin;
 use lines::put_refused;
 use lines::put_table;
 use live::live_entries;
+use model::format::MOST_ENTRIES;
+use model::format::MOST_ROWS;
+use model::sizes::Sizes;
 use model::sizes::records;
-use model::sizes::states;
-use model::sizes::symbols;
+use model::sizes::sizes_of;
 use outcome::Outcome;
 use outcome::is_refused;
 use outcome::number;
@@ -28,14 +30,13 @@ ghost use mathlib.Core.Path.{_≡_};
 ghost use Rattle.outcome.specs.declared.Outcome.the-variants.{Accepted};
 ghost use Rattle.certificate.specs.Verdict.{verdict};
 ghost use Rattle.history.specs.Run.{replyOf};
-ghost use Prim.Native.Nat.{_<_};
-ghost use Rattle.ppda.specs.Equations.{entries};
-ghost use Rattle.report.specs.Printed.{linesBy, acceptedLines, printed};
-ghost use Rattle.report.specs.Walks.{room, Holds, HoldsModel, refusalOf};
+ghost use Rattle.model.specs.Sizes.{Fits};
+ghost use Rattle.report.specs.Printed.{acceptedLines, printed};
+ghost use Rattle.report.specs.Walks.{room, Holds, linesWith, HoldsModel, refusalOf};
 ghost use lib.ListN.{length};
 
-// The bytes of a buffer: no report of at most 1,024 entries and 128 rows has more.
-const ROOM: usize = TABLE_ROOM + MARGIN_ROOM + 1024 * CHANCE_ROOM + 128 * STEPS_ROOM;
+// The bytes of a buffer: no report has more lines, nor longer ones.
+const ROOM: usize = TABLE_ROOM + MARGIN_ROOM + MOST_ENTRIES * CHANCE_ROOM + MOST_ROWS * STEPS_ROOM;
 
 // What is to be printed: the first `length` bytes.
 pub struct Printout {
@@ -68,16 +69,16 @@ fn refusal(outcome: Outcome) -> Printout
 }
 
 // What a register shows, where u − f(u) of the entries and the model's sizes are at hand.
-fn shown_with(register: Register, n: usize, gaps: &[u64; 1024], s: usize, g: usize) -> Printout
-    requires { ⌜ (0 < s) × (s < 9) × (0 < g) × (g < 17) ⌝ }
-    ensures { λ r. ⌜ Holds r (linesBy (replyOf register) n (entries s g (now (gaps .entry))) s g) ⌝ }
+fn shown_with(register: Register, rules: usize, gaps: &[u64; MOST_ENTRIES], n: Sizes) -> Printout
+    requires { ⌜ Fits (n .states) (n .symbols) ⌝ }
+    ensures { λ r. ⌜ Holds r (linesWith register rules (now (gaps .entry)) n) ⌝ }
 {
     let mut bytes = blank();
-    let live = live_entries(register, s, g);
-    let at = put_table(&mut bytes, 0, s, g, n, live);
+    let live = live_entries(register, n);
+    let at = put_table(&mut bytes, 0, n.states, n.symbols, rules, live);
     let at = put_margin(&mut bytes, at, register.margin());
-    let at = put_chances(&mut bytes, at, register, gaps, s, g);
-    let length = put_means(&mut bytes, at, register, s, g);
+    let at = put_chances(&mut bytes, at, register, gaps, n);
+    let length = put_means(&mut bytes, at, register, n);
     Printout { bytes, length }
 }
 
@@ -87,9 +88,8 @@ fn shown(register: Register, model: &[u8], delivery: &[u8]) -> Printout
     ensures { λ r. ⌜ Holds r (acceptedLines (replyOf register) (now (model .entry)) (now (delivery .entry))) ⌝ }
 {
     let gaps = gaps_of(model, delivery);
-    let s = states(model);
-    let g = symbols(model);
-    shown_with(register, records(model), &gaps, s, g)
+    let n = sizes_of(model);
+    shown_with(register, records(model), &gaps, n)
 }
 
 // What is printed of any delivery, where a register holds the model.

@@ -1,24 +1,24 @@
 // How many entries are live, by a register's answers.
 
-use delivery::shape::entries;
-use lines::is_live;
+use lines::says_live;
+use model::sizes::Sizes;
 use register::Register;
 ghost use mathlib.Core.Path.{_≡_};
-ghost use Prim.Native.Nat.{_<_};
+ghost use Rattle.model.specs.Sizes.{Fits};
 ghost use Rattle.history.specs.Run.{replyOf};
 ghost use Rattle.report.specs.Printed.{liveEntries};
 
-// The live entries of a model with s states and g symbols.
-pub(crate) fn live_entries(register: Register, s: usize, g: usize) -> usize
-    requires { ⌜ (0 < s) × (s < 9) × (0 < g) × (g < 17) ⌝ }
-    ensures { λ r. ⌜ r ≡ liveEntries (replyOf register) s g ⌝ }
+// The live entries of a model of these sizes.
+pub(crate) fn live_entries(register: Register, n: Sizes) -> usize
+    requires { ⌜ Fits (n .states) (n .symbols) ⌝ }
+    ensures { λ r. ⌜ r ≡ liveEntries (replyOf register) (n .states) (n .symbols) ⌝ }
 {
-    let n = entries(s, g);
+    let entries = n.entries();
     let mut count = 0;
     let mut e = 0;
-    while e < n {
-        let row = e / s;
-        if is_live(register.live(row / g, row % g, e % s)) {
+    while e < entries {
+        let row = e / n.states;
+        if says_live(register.live(row / n.symbols, row % n.symbols, e % n.states)) {
             count += 1;
         }
         e += 1;

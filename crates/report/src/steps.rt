@@ -1,27 +1,31 @@
 // The lines of the rows' mean steps, in file order.
 
-use delivery::shape::rows;
 use lines::put_steps;
+use model::sizes::Sizes;
 use register::Register;
 ghost use mathlib.Core.Path.{_≡_};
-ghost use Prim.Native.Nat.{_+_, _*_, _≤_, _<_};
+ghost use Prim.Native.Nat.{_+_, _*_, _≤_};
 ghost use lib.ListN.{length};
 ghost use Rattle.text.specs.Walks.{Put};
+ghost use Rattle.model.specs.Format.{mostRows};
+ghost use Rattle.model.specs.Sizes.{Fits};
 ghost use Rattle.history.specs.Run.{replyOf};
 ghost use Rattle.lines.specs.Walks.{stepsRoom};
 ghost use Rattle.report.specs.Printed.{stepsLines};
 
 // The lines of all rows.
-pub(crate) fn put_means(out: &mut [u8], at: usize, register: Register, s: usize, g: usize) -> usize
-    requires { ⌜ (at + 128 * stepsRoom ≤ length (now out)) × (s < 9) × (0 < g) × (g < 17) ⌝ }
-    ensures { λ r. ⌜ Put (now (out .entry)) (now (out .exit)) at r (stepsLines (replyOf register) s g) × (r ≤ at + 128 * stepsRoom) ⌝ }
+pub(crate) fn put_means(out: &mut [u8], at: usize, register: Register, n: Sizes) -> usize
+    requires fits { ⌜ Fits (n .states) (n .symbols) ⌝ }
+    requires room { ⌜ at + mostRows * stepsRoom ≤ length (now out) ⌝ }
+    ensures { λ r. ⌜ Put (now (out .entry)) (now (out .exit)) at r (stepsLines (replyOf register) (n .states) (n .symbols)) ⌝ }
+    ensures { λ r. ⌜ r ≤ at + mostRows * stepsRoom ⌝ }
 {
-    let n = rows(s, g);
+    let rows = n.rows();
     let mut at = at;
     let mut k = 0;
-    while k < n {
-        let p = k / g;
-        let z = k % g;
+    while k < rows {
+        let p = k / n.symbols;
+        let z = k % n.symbols;
         at = put_steps(out, at, p, z, register.mean_steps(p, z));
         k += 1;
     }

@@ -19,7 +19,8 @@ returns : tie.Need-returns
 returns c =
     let said = c .before .before in
     let received = said .before in
-    let line = delivery-refused _ _ (received .before .before .before .pre) (received .file-delivery .ensures) (said .is-refused .ensures) (c .before .if1 .taken) in
+    let held = received .before .before .before .pre in
+    let line = delivery-refused _ _ held (received .file-delivery .ensures) (said .is-refused .ensures) (c .before .if1 .taken) in
     subst (Holds _) line (c .refusal .ensures)
 
 shown-requires : tie.Need-shown-requires

@@ -47,7 +47,7 @@ returns c =
     let live = table .before .before in
     let args = live .before .before .args in
     put-holds (live .before .blank .ensures)
-    (lines-put (args .register) _ (args .s) (args .g) (args .n) (live .live-entries .ensures) (margin .before .margin .ensures)
+    (lines-put (args .register) _ (args .n .states) (args .n .symbols) (args .rules) (live .live-entries .ensures) (margin .before .margin .ensures)
     (table .put-table .ensures .0) (margin .put-margin .ensures .0) (chances .put-chances .ensures .0) (means .put-means .ensures .0))
     (omega arith)
 

@@ -7,8 +7,8 @@ use Rattle.report.proofs.chances.asked.Tie as tie
 live-requires : tie.Need-live-requires
 live-requires c κs = search needs
 
-is-live-requires : tie.Need-is-live-requires
-is-live-requires c κs = search needs
+says-live-requires : tie.Need-says-live-requires
+says-live-requires c κs = search needs
 
 lower-requires : tie.Need-lower-requires
 lower-requires c κs = search needs
@@ -21,9 +21,9 @@ returns c =
     let lower = c .before in
     let live = lower .before in
     let args = live .before .before .args in
-    chance-said (args .register) (args .p) (args .z) (args .q) (live .before .live .ensures) (live .is-live .ensures) (args .gap)
+    chance-said (args .register) (args .p) (args .z) (args .q) (live .before .live .ensures) (live .says-live .ensures) (args .gap)
     (lower .lower .ensures) (c .upper .ensures)
 
 pub asked-spec : {M : Type 1} → statement M
 asked-spec =
-    tie.close (tie.spec live-requires is-live-requires lower-requires upper-requires returns)
+    tie.close (tie.spec live-requires says-live-requires lower-requires upper-requires returns)

@@ -6,20 +6,23 @@ use denote.Ref.{now}
 use borrow.Author.Needs.{needs}
 use Rattle.text.proofs.Puts.{put-as, Joined, joined-none, joined-more, joined-all}
 use Rattle.text.specs.Texts.{joinTo}
-use Rattle.ppda.specs.Equations.{entries}
+use Rattle.ppda.specs.Order.{entriesIn, byEntry}
+use Rattle.ppda.specs.Equations as equations
+use Rattle.model.specs.Format.{mostEntries}
 use Rattle.history.specs.Run.{replyOf}
-use Rattle.report.specs.Printed.{byEntry, chanceAt, chanceLines}
+use Rattle.report.specs.Printed.{chanceAt, chanceLines}
 use Rattle.lines.specs.Walks.{chanceRoom}
 use Rattle.report.proofs.Asked.{chance-by-number}
 use Rattle.report.proofs.chances.put_chances.Statement.{statement}
 use Rattle.report.proofs.chances.put_chances.Tie as tie
 
 abbrev Inv-loop : tie.InvT-loop
-Inv-loop out₀ at register gaps s g n at₀ e₀ out at' e =
-    (n ≡ s * g * s) × (n ≤ 1024) × Joined (byEntry s g (chanceAt (replyOf register) (entries s g gaps))) chanceRoom n out₀ out at at' e
+Inv-loop out₀ at register gaps n entries at₀ e₀ out at' e =
+    (entries ≡ entriesIn (n .states) (n .symbols)) × (entries ≤ mostEntries)
+    × Joined (byEntry (n .states) (n .symbols) (chanceAt (replyOf register) (equations.entries (n .states) (n .symbols) gaps))) chanceRoom entries out₀ out at at' e
 
 abbrev μ-loop : tie.MeasureT-loop
-μ-loop out₀ at register gaps s g n at₀ e₀ out at' e = n - e
+μ-loop out₀ at register gaps n entries at₀ e₀ out at' e = entries - e
 
 entries-requires : tie.Need-entries-requires Inv-loop μ-loop
 entries-requires c κs = search needs
@@ -61,11 +64,11 @@ loop-again : tie.Need-loop-again Inv-loop μ-loop
 loop-again c =
     let put = c .before .before in
     let asked = put .before in
-    let turn = asked .before .before .before in
+    let turn = asked .before .before .before .before .before .before .before in
     let loop = turn .before .loop in
     let args = turn .before .before .before .before .args in
     let (all, few, so) = loop .inv in
-    let line = chance-by-number (replyOf (args .register)) (now (args .gaps)) (args .s) (args .g) (loop .e) (asked .asked .ensures) in
+    let line = chance-by-number (replyOf (args .register)) (now (args .gaps)) (args .n .states) (args .n .symbols) (loop .e) (asked .asked .ensures) in
     (all, few, joined-more so (turn .loop-test .taken) (put-as line (put .put-chance .ensures .0), put .put-chance .ensures .1))
 
 same-length : tie.Need-same-length Inv-loop μ-loop

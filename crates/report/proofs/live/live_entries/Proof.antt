@@ -5,19 +5,22 @@ use mathlib.Core.Logic.{⊎-elim}
 use mathlib.Core.Path.{_≡_, sym, ap, _∙_}
 use borrow.Author.Needs.{needs}
 use Rattle.ppda.specs.Sums.{bit, sumTo}
+use Rattle.ppda.specs.Order.{entriesIn, byEntry}
+use Rattle.model.specs.Format.{mostEntries}
 use Rattle.history.specs.Run.{replyOf}
-use Rattle.report.specs.Printed.{byEntry, liveAt, liveEntries}
+use Rattle.report.specs.Printed.{liveAt, liveEntries}
 use Rattle.report.proofs.Counts.{Counted, counted-none, counted-more, counted-same, counted-all}
 use Rattle.report.proofs.Asked.{live-said}
 use Rattle.report.proofs.live.live_entries.Statement.{statement}
 use Rattle.report.proofs.live.live_entries.Tie as tie
 
 abbrev Inv-loop : tie.InvT-loop
-Inv-loop register s g n count₀ e₀ count e =
-    (n ≡ s * g * s) × (n ≤ 1024) × Counted (byEntry s g (liveAt (replyOf register))) 1 n count e
+Inv-loop register n entries count₀ e₀ count e =
+    (entries ≡ entriesIn (n .states) (n .symbols)) × (entries ≤ mostEntries)
+    × Counted (byEntry (n .states) (n .symbols) (liveAt (replyOf register))) 1 entries count e
 
 abbrev μ-loop : tie.MeasureT-loop
-μ-loop register s g n count₀ e₀ count e = n - e
+μ-loop register n entries count₀ e₀ count e = entries - e
 
 entries-requires : tie.Need-entries-requires Inv-loop μ-loop
 entries-requires c κs = search needs
@@ -40,8 +43,8 @@ rem-live-2 c = search needs
 live-requires : tie.Need-live-requires Inv-loop μ-loop
 live-requires c κs = search needs
 
-is-live-requires : tie.Need-is-live-requires Inv-loop μ-loop
-is-live-requires c κs = search needs
+says-live-requires : tie.Need-says-live-requires Inv-loop μ-loop
+says-live-requires c κs = search needs
 
 add-count : tie.Need-add-count Inv-loop μ-loop
 add-count c = search needs
@@ -55,9 +58,9 @@ loop-less c = search needs
 loop-again : tie.Need-loop-again Inv-loop μ-loop
 loop-again c =
     let said = c .before in
-    let turn = said .before .before in
+    let turn = said .before .before .before .before .before .before in
     let (all, few, so) = turn .before .loop .inv in
-    let is = live-said _ _ _ _ (said .before .live .ensures) (said .is-live .ensures) in (
+    let is = live-said _ _ _ _ (said .before .live .ensures) (said .says-live .ensures) in (
       all,
       few,
       ⊎-elim
@@ -85,7 +88,7 @@ live-entries-spec =
     rem-live
     rem-live-2
     live-requires
-    is-live-requires
+    says-live-requires
     add-count
     add-e
     loop-less

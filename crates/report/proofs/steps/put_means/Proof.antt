@@ -5,18 +5,21 @@ use mathlib.Core.Path.{_≡_, ap, _∙_}
 use borrow.Author.Needs.{needs}
 use Rattle.text.proofs.Puts.{put-as, Joined, joined-none, joined-more, joined-all}
 use Rattle.text.specs.Texts.{joinTo}
+use Rattle.ppda.specs.Order.{rowsIn, byRow}
+use Rattle.model.specs.Format.{mostRows}
 use Rattle.history.specs.Run.{replyOf}
-use Rattle.report.specs.Printed.{byRow, stepsAt, stepsLines}
+use Rattle.report.specs.Printed.{stepsAt, stepsLines}
 use Rattle.lines.specs.Walks.{stepsRoom}
 use Rattle.report.proofs.steps.put_means.Statement.{statement}
 use Rattle.report.proofs.steps.put_means.Tie as tie
 
 abbrev Inv-loop : tie.InvT-loop
-Inv-loop out₀ at register s g n at₀ k₀ out at' k =
-    (n ≡ s * g) × (n ≤ 128) × Joined (byRow g (stepsAt (replyOf register))) stepsRoom n out₀ out at at' k
+Inv-loop out₀ at register n rows at₀ k₀ out at' k =
+    (rows ≡ rowsIn (n .states) (n .symbols)) × (rows ≤ mostRows)
+    × Joined (byRow (n .symbols) (stepsAt (replyOf register))) stepsRoom rows out₀ out at at' k
 
 abbrev μ-loop : tie.MeasureT-loop
-μ-loop out₀ at register s g n at₀ k₀ out at' k = n - k
+μ-loop out₀ at register n rows at₀ k₀ out at' k = rows - k
 
 rows-requires : tie.Need-rows-requires Inv-loop μ-loop
 rows-requires c κs = search needs
@@ -47,7 +50,7 @@ unfolding replyOf
 loop-again c =
     let put = c .before .before in
     let asked = put .before in
-    let turn = asked .before .before in
+    let turn = asked .before .before .before .before in
     let (all, few, so) = turn .before .loop .inv in
     (all, few, joined-more so (turn .loop-test .taken) (rw (← asked .mean-steps .ensures) (put .put-steps .ensures)))
 
