@@ -12,15 +12,16 @@ use borrow.Author.Tests.{ltb-true, ltb-false, leb-true, leb-false, eqb-true, not
 use Rattle.ppda.specs.Units.{chanceUnit, sumUnit}
 use Rattle.outcome.specs.declared.Reason.{Reason}
 use Rattle.outcome.specs.declared.Outcome.the-variants.{Accepted, Refused}
+use Rattle.walks.specs.Lists.{joinTo}
 use Rattle.outcome.specs.Tests.{Test, plain, refusal, first, each, Passed, FirstFailure}
 use Rattle.outcome.proofs.Exactly.{not-lt-exactly, not-exactly, and-fails, or-fails}
 use Rattle.outcome.proofs.Tests.{accepted-exactly, refused-exactly, first-failure, first-stands, passed-append}
-use Rattle.ppda.specs.Sums.{In}
+use Rattle.walks.specs.Sums.{In}
 use Rattle.ppda.specs.Rules.{Rule, IsModel}
 use Rattle.ppda.specs.Equations.{f}
 use Rattle.ppda.specs.Live.{isLive, alive, Live}
 use Rattle.ppda.specs.Bounds as Bounds
-use Rattle.ppda.proofs.Lists.{in-append-cases, in-append-right}
+use Rattle.walks.proofs.Lists.{in-append-cases, in-append-right}
 use Rattle.ppda.proofs.Live.{live-by-rounds}
 use Rattle.model.specs.Records.{recordsOf, statesOf, symbolsOf}
 use Rattle.model.specs.Rules.{rulesOf}
@@ -33,7 +34,7 @@ use Rattle.delivery.specs.declared.shape.Block.the-variants.{Uppers, Lowers, Me
 use Rattle.delivery.specs.declared.shape.Shape.{Shape}
 use Rattle.delivery.specs.declared.shape.Shaped.{Shaped}
 use Rattle.delivery.specs.declared.shape.Shaped.the-variants.{Of, Unknown}
-use Rattle.ppda.specs.Order.{rowsIn, AtEntries}
+use Rattle.walks.specs.Order.{rowsIn, AtEntries}
 use Rattle.delivery.specs.Shapes.{hasLowers, hasMeans, shapeOf}
 use Rattle.delivery.specs.Numbers.{uppersOf, lowersOf, meansOf}
 use Rattle.delivery.specs.Layout.{eachEntry, eachRow, onlyIf, recordTests, upperRecords, lowerRecords, meanRecords, layoutTests}
@@ -270,7 +271,7 @@ short-only true r = r
 short-only false r = short-none
 
 short-each : (n : ℕ) {h : ℕ → List Test} → ((i : ℕ) → Short (h i)) → Short (each n h)
-unfolding each
+unfolding each joinTo
 short-each zero r = short-none
 short-each (suc n) r = short-append (short-each n r) (r n)
 

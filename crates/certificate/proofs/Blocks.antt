@@ -20,13 +20,13 @@ use Rattle.ppda.specs.Equations.{Vector, RowVector, f, SameRows, Same}
 use Rattle.ppda.specs.Live.{isLive}
 use Rattle.model.specs.Rules.{rulesOf}
 use Rattle.delivery.specs.Records.{valueAt}
-use Rattle.ppda.specs.Order.{entriesIn, entryAt, rowAt}
+use Rattle.walks.specs.Order.{entriesIn, entryAt, rowAt}
 use Rattle.delivery.specs.Numbers.{uppersOf, rowsOfBlock}
 use Rattle.delivery.specs.Layout.{eachEntry, eachRow}
 use Rattle.delivery.specs.Walks.{Within}
 use Rattle.delivery.proofs.Walks.{entries-by-number}
 use Rattle.live.specs.Exits.{exitMarks}
-use Rattle.ppda.proofs.Places.{entry-below}
+use Rattle.walks.proofs.Places.{entry-below}
 use Rattle.ppda.proofs.Vectors.{f-same, mean-side-same}
 use Rattle.inequalities.specs.declared.sides.Side.the-variants.{Upper, StrictUpper, Lower}
 use Rattle.inequalities.specs.Inequalities.{deadTest, upperTest, belowTest, lowerTest, meanTest, deadTests, upperTests, belowTests, lowerTests, meanTests}

@@ -14,7 +14,7 @@ use Rattle.outcome.specs.declared.Outcome.the-variants.{Refused}
 use Rattle.outcome.specs.Reasons.{numberOf}
 use Rattle.outcome.specs.Tests.{Test}
 use Rattle.outcome.proofs.Tests.{Refusals, refusals-none, refusals-cons, refusals-append, refusals-each, refusals-weaken}
-use Rattle.ppda.proofs.Places.{row-below, entry-below}
+use Rattle.walks.proofs.Places.{row-below, entry-below}
 use Rattle.model.specs.Records.{recordsOf, statesOf, symbolsOf}
 use Rattle.model.specs.Sizes.{Fits}
 use Rattle.model.proofs.Records.{sizes-fit}
@@ -28,7 +28,7 @@ use Rattle.delivery.specs.declared.shape.Shape.the-variants.{U, UL, UR, ULR}
 use Rattle.delivery.specs.declared.shape.Shaped.{Shaped}
 use Rattle.delivery.specs.declared.shape.Shaped.the-variants.{Of, Unknown}
 use Rattle.delivery.specs.Shapes.{hasLowers, hasMeans, meansFrom, recordsIn, shapeOf}
-use Rattle.ppda.specs.Order.{entriesIn, entryAt, rowAt}
+use Rattle.walks.specs.Order.{entriesIn, entryAt, rowAt}
 use Rattle.delivery.specs.Layout.{eachEntry, eachRow, onlyIf, recordTests, upperRecords, lowerRecords, meanRecords, layoutTests}
 use Rattle.delivery.proofs.Shapes.{shape-long, uppers-fit, lowers-fit, means-fit}
 use Rattle.inequalities.specs.Inequalities.{deadTest, upperTest, belowTest, lowerTest, meanTest, deadTests, upperTests, belowTests, lowerTests, meanTests}

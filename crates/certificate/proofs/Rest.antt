@@ -15,12 +15,12 @@ use Rattle.ppda.specs.Rules.{IsModel}
 use Rattle.ppda.specs.Equations.{Vector, SameRows, Same}
 use Rattle.ppda.specs.Live.{alive}
 use Rattle.model.specs.Rules.{rulesOf}
-use Rattle.ppda.proofs.Places.{row-split}
+use Rattle.walks.proofs.Places.{row-split}
 use Rattle.delivery.specs.declared.shape.Shape.{Shape}
 use Rattle.delivery.specs.declared.shape.Shaped.the-variants.{Of}
 use Rattle.delivery.specs.Records.{valueAt}
 use Rattle.delivery.specs.Shapes.{hasLowers, hasMeans, meansFrom, recordsIn, shapeOf}
-use Rattle.ppda.specs.Order.{entriesIn, rowsIn, entryAt, rowAt, AtEntries, AtRows}
+use Rattle.walks.specs.Order.{entriesIn, rowsIn, entryAt, rowAt, AtEntries, AtRows}
 use Rattle.delivery.specs.Numbers.{uppersOf, lowersOf, meansOf, rowsOfBlock}
 use Rattle.delivery.specs.Layout.{layoutTests}
 use Rattle.delivery.specs.Walks.{Within}

@@ -6,7 +6,7 @@ use mathlib.Core.List.{List}
 use mathlib.Core.Path.{_≡_, refl, ap, ap₂, _∙_}
 use Rattle.ppda.specs.Units.{chanceUnit}
 use Rattle.outcome.specs.declared.Outcome.the-variants.{Accepted}
-use Rattle.ppda.specs.Sums.{leastTo}
+use Rattle.walks.specs.Sums.{leastTo}
 use Rattle.ppda.specs.Equations.{f, Same}
 use Rattle.ppda.specs.Live.{isLive, alive}
 use Rattle.ppda.specs.Margin.{shareAt, margin}

@@ -16,7 +16,7 @@ use Rattle.delivery.specs.declared.shape.Shape.{Shape}
 use Rattle.delivery.specs.declared.shape.Shaped.the-variants.{Of}
 use Rattle.delivery.specs.Records.{kindAt, stateAt, symbolAt, exitAt, valueAt, kindOf, leastOf, mostOf}
 use Rattle.delivery.specs.Shapes.{hasLowers, hasMeans, meansFrom, shapeOf}
-use Rattle.ppda.specs.Order.{entriesIn, rowAt, entryAt, AtRows, AtEntries}
+use Rattle.walks.specs.Order.{entriesIn, rowAt, entryAt, AtRows, AtEntries}
 use Rattle.delivery.specs.Numbers.{uppersOf, lowersOf, meansOf}
 
 -- Record i is the one due there (21), with a value in range (22).

@@ -8,7 +8,7 @@ use lib.ListN.{take, drop}
 use Rattle.outcome.specs.declared.Outcome.the-variants.{Accepted}
 use Rattle.outcome.specs.Tests.{Test, first}
 use Rattle.ppda.specs.Units.{mostChance, mostMean}
-use Rattle.ppda.specs.Order.{entriesIn, rowsIn}
+use Rattle.walks.specs.Order.{entriesIn, rowsIn}
 use Rattle.ppda.specs.Equations.{Vector}
 use Rattle.model.specs.declared.sizes.Sizes.{Sizes}
 use Rattle.model.specs.Rules.{rulesOf}

@@ -13,7 +13,7 @@ use Rattle.delivery.specs.declared.shape.Shape.{Shape}
 use Rattle.delivery.specs.declared.shape.Shaped.{Shaped}
 use Rattle.delivery.specs.declared.shape.Shaped.the-variants.{Of, Unknown}
 use Rattle.delivery.specs.Shapes.{hasLowers, hasMeans, meansFrom, shapeOf}
-use Rattle.ppda.specs.Order.{entriesIn}
+use Rattle.walks.specs.Order.{entriesIn}
 use Rattle.delivery.specs.Numbers.{uppersOf, lowersOf, meansOf}
 use Rattle.delivery.specs.Layout.{onlyIf, layoutTests}
 use Rattle.inequalities.specs.Inequalities.{deadTests, upperTests, belowTests, lowerTests, meanTests}

@@ -12,10 +12,12 @@ use lib.Seq.{getD-append-add, take-all, take-add}
 use Rattle.words.specs.Words.{Bytes}
 use Rattle.words.proofs.Words.{bytes-none, bytes-cons, bytes-append, four-are-bytes, part-next, part-more, word-by, bytes-make, made-word}
 use Rattle.ppda.specs.Equations.{Vector, RowVector}
-use Rattle.ppda.proofs.Places.{row-below, entry-below}
+use Rattle.walks.specs.Lists.{joinTo}
+use Rattle.walks.proofs.Places.{row-below, entry-below}
 use Rattle.outcome.specs.declared.Outcome.the-variants.{Accepted}
 use Rattle.outcome.specs.Tests.{first}
-use Rattle.outcome.proofs.Tests.{accepted-exactly, last-or-below}
+use Rattle.outcome.proofs.Tests.{accepted-exactly}
+use Rattle.walks.proofs.Sums.{last-or-below}
 use Rattle.delivery.specs.declared.shape.Block.{Block}
 use Rattle.delivery.specs.declared.shape.Block.the-variants.{Uppers, Lowers, Means}
 use Rattle.delivery.specs.declared.shape.Shape.{Shape}
@@ -24,48 +26,31 @@ use Rattle.delivery.specs.declared.shape.Shaped.the-variants.{Of}
 use Rattle.delivery.specs.Format.{recordBytes, valueByte}
 use Rattle.delivery.specs.Records.{byteOf, kindAt, stateAt, symbolAt, exitAt, valueAt, kindOf, leastOf, mostOf}
 use Rattle.delivery.specs.Shapes.{hasLowers, hasMeans, meansFrom, recordsIn, shapeOf}
-use Rattle.ppda.specs.Order.{entriesIn, rowsIn, entryAt, rowAt}
+use Rattle.walks.specs.Order.{entriesIn, rowsIn, entryAt, rowAt}
 use Rattle.delivery.specs.Numbers.{uppersOf, lowersOf, meansOf}
 use Rattle.delivery.specs.Layout.{isDue, inRange, layoutTests}
 use Rattle.delivery.proofs.Shapes.{one-state, shape-long, shape-found, one-state-lowers, one-state-means, one-state-alone, one-state-both, uppers-fit, lowers-fit, means-fit}
 use Rattle.delivery.proofs.Says.{AtRecords, says-record, says-layout, due-exactly, range-exactly}
-use Rattle.delivery.specs.Made.{deliveryRecord, joined, entryRecords, rowRecords, madeDelivery, NumbersFit}
+use Rattle.delivery.specs.Made.{deliveryRecord, entryRecords, rowRecords, madeDelivery, NumbersFit}
+use Rattle.walks.proofs.Lists.{length-joined, getD-joined}
 
 -- ---- lists of one length, one after the other
 
 module _ (w : ℕ) (h : ℕ → List ℕ) where
-  length-joined : (n : ℕ) → ((i : ℕ) → i < n → length (h i) ≡ w) → length (joined n h) ≡ n * w
-  unfolding joined
-  length-joined zero size = sym (zero-mul w)
-  length-joined (suc n) size =
-      length-append (joined n h) (h n) ∙ omega (arith, length-joined n (λ i l. size i (omega arith)), size n (omega arith))
-
-  -- Byte k of list i.
-  getD-joined : (n : ℕ) → ((i : ℕ) → i < n → length (h i) ≡ w) → (i k : ℕ) → i < n → k < w
-      → getD (joined n h) (i * w + k) 0 ≡ getD (h i) k 0
-  unfolding joined
-  getD-joined zero size i k l lk = absurd (omega arith)
-  getD-joined (suc n) size i k l lk =
-      let long : length (joined n h) ≡ n * w = length-joined n (λ j m. size j (omega arith)) in
-      last-or-below i n l
-      (λ e. rw (e, ← long) (getD-append-add (joined n h) (h n) k 0))
-      (λ m. List·getD-append (joined n h) (h n) 0 (i * w + k) (rw long (row-below n w i k m lk))
-      ∙ getD-joined n (λ j o. size j (omega arith)) i k m lk)
-
   -- Parts of a file that follow each other are one part of it.
   joined-part : (b : List ℕ) (from n : ℕ) → ((i : ℕ) → i < n → h i ≡ take w (drop (from + i * w) b))
-      → joined n h ≡ take (n * w) (drop from b)
-  unfolding joined
+      → joinTo h n ≡ take (n * w) (drop from b)
+  unfolding joinTo
   joined-part b from zero part = ap (λ k. take k (drop from b)) (sym (zero-mul w))
   joined-part b from (suc n) part =
       let e : n * w + w ≡ suc n * w = omega arith in
       ap₂ _++_ (joined-part b from n (λ i l. part i (omega arith))) (part n (omega arith))
       ∙ sym (part-more b from (n * w) w) ∙ ap (λ k. take k (drop from b)) e
 
-bytes-joined : (h : ℕ → List ℕ) (n : ℕ) → ((i : ℕ) → i < n → Bytes (h i)) → Bytes (joined n h)
-unfolding joined
+bytes-joined : (h : ℕ → List ℕ) (n : ℕ) → ((i : ℕ) → i < n → Bytes (h i)) → Bytes (joinTo h n)
+unfolding joinTo
 bytes-joined h zero bytes = bytes-none
-bytes-joined h (suc n) bytes = bytes-append (joined n h) (bytes-joined h n (λ i l. bytes i (omega arith))) (bytes n (omega arith))
+bytes-joined h (suc n) bytes = bytes-append (joinTo h n) (bytes-joined h n (λ i l. bytes i (omega arith))) (bytes n (omega arith))
 
 -- ---- where records stand
 

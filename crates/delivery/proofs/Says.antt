@@ -14,7 +14,7 @@ use Rattle.delivery.specs.declared.shape.Block.the-variants.{Uppers, Low
 use Rattle.delivery.specs.declared.shape.Shape.{Shape}
 use Rattle.delivery.specs.Records.{kindAt, stateAt, symbolAt, exitAt, valueAt, kindOf, leastOf, mostOf}
 use Rattle.delivery.specs.Shapes.{hasLowers, hasMeans, meansFrom}
-use Rattle.ppda.specs.Order.{entriesIn, entryAt, rowAt, AtEntries, AtRows}
+use Rattle.walks.specs.Order.{entriesIn, entryAt, rowAt, AtEntries, AtRows}
 use Rattle.delivery.specs.Layout.{eachEntry, eachRow, onlyIf, isDue, inRange, recordTests, upperRecords, lowerRecords, meanRecords, layoutTests}
 
 -- No test of the list fails exactly where A holds.

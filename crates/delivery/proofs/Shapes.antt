@@ -19,7 +19,7 @@ use Rattle.delivery.specs.declared.shape.Block.the-variants.{Lowers}
 use Rattle.delivery.specs.Format.{recordBytes}
 use Rattle.delivery.specs.Records.{HasRecord, kindAt, kindOf}
 use Rattle.delivery.specs.Shapes.{hasLowers, hasMeans, meansFrom, recordsIn, longAs, lowersOrMeans, shapeOf}
-use Rattle.ppda.specs.Order.{entriesIn, rowsIn}
+use Rattle.walks.specs.Order.{entriesIn, rowsIn}
 
 -- ---- lengths
 

@@ -8,26 +8,27 @@ use mathlib.Core.Path.{_≡_, refl, sym, ap, ap₂, _∙_}
 use lib.ListN.{getD, drop}
 use lib.Seq.{getD-drop}
 use Rattle.words.specs.Words.{wordAt}
-use Rattle.ppda.proofs.Places.{row-at}
+use Rattle.walks.proofs.Places.{row-at}
+use Rattle.walks.specs.Lists.{joinTo}
 use Rattle.outcome.specs.Tests.{Test, each}
 use Rattle.outcome.proofs.Tests.{each-cong}
 use Rattle.delivery.specs.Format.{recordBytes, valueByte}
 use Rattle.delivery.specs.Records.{valueAt}
-use Rattle.ppda.specs.Order.{entryAt}
+use Rattle.walks.specs.Order.{entryAt}
 use Rattle.delivery.specs.Layout.{eachEntry, eachRow}
 
 -- ---- n times m tests, nested and in one sequence
 
 -- The first a, then b more.
 each-append : (a b : ℕ) (h : ℕ → List Test) → each a h ++ each b (λ j. h (a + j)) ≡ each (a + b) h
-unfolding each
+unfolding each joinTo
 each-append a zero h = append-nil (each a h) ∙ ap (λ n. each n h) (sym (add-zero a))
 each-append a (suc b) h =
     sym (append-assoc (each a h) (each b (λ j. h (a + j))) (h (a + b))) ∙ ap (λ l. l ++ h (a + b)) (each-append a b h)
     ∙ ap (λ n. each n h) (sym (add-suc a b))
 
 pub each-flat : (n m : ℕ) (h : ℕ → List Test) → each n (λ i. each m (λ j. h (i * m + j))) ≡ each (n * m) h
-unfolding each
+unfolding each joinTo
 each-flat zero m h = ap (λ k. each k h) (sym (zero-mul m))
 each-flat (suc n) m h =
     ap (λ l. l ++ each m (λ j. h (n * m + j))) (each-flat n m h) ∙ each-append (n * m) m h ∙ ap (λ k. each k h) (sym (suc-mul n m))

@@ -10,7 +10,7 @@ use Rattle.delivery.specs.declared.shape.Block.the-variants.{Uppers, Low
 use Rattle.delivery.specs.declared.shape.Shape.{Shape}
 use Rattle.delivery.specs.Records.{kindAt, stateAt, symbolAt, exitAt, valueAt, kindOf, leastOf, mostOf}
 use Rattle.delivery.specs.Shapes.{hasLowers, hasMeans, meansFrom}
-use Rattle.ppda.specs.Order.{entriesIn, entryAt, rowAt}
+use Rattle.walks.specs.Order.{entriesIn, entryAt, rowAt}
 
 -- The tests of all entries of a model with s states and g symbols, ascending by (p, Z, q), and of all rows, ascending by (p, Z).
 unfoldable pub eachEntry : ℕ → ℕ → (ℕ → ℕ → ℕ → List Test) → List Test

@@ -4,29 +4,25 @@ use mathlib.Core.Bool.{true, cond}
 use mathlib.Core.List.{List, [], _∷_, _++_}
 use mathlib.Core.Path.{_≡_}
 use Rattle.words.specs.Words.{fourBytes}
-use Rattle.ppda.specs.Order.{AtRows, AtEntries}
+use Rattle.walks.specs.Order.{AtRows, AtEntries}
 use Rattle.ppda.specs.Equations.{Vector, RowVector}
 use Rattle.delivery.specs.declared.shape.Block.{Block}
 use Rattle.delivery.specs.declared.shape.Block.the-variants.{Uppers, Lowers, Means}
 use Rattle.delivery.specs.declared.shape.Shape.{Shape}
 use Rattle.delivery.specs.Records.{kindOf, leastOf, mostOf}
 use Rattle.delivery.specs.Shapes.{hasLowers, hasMeans}
+use Rattle.walks.specs.Lists.{joinTo}
 
 -- The eight bytes of a record, of any kind, p, Z, q and value.
 abbrev pub deliveryRecord : ℕ → ℕ → ℕ → ℕ → ℕ → List ℕ
 deliveryRecord k p z q v = k ∷ p ∷ z ∷ q ∷ fourBytes v
 
--- The bytes of 0, 1, …, n − 1, one after the other.
-unfoldable pub joined : ℕ → (ℕ → List ℕ) → List ℕ
-joined zero h = []
-joined (suc n) h = joined n h ++ h n
-
 -- A block of entries, ascending by (p, Z, q), and the mean steps, ascending by (p, Z).
 unfoldable pub entryRecords : ℕ → ℕ → Block → Vector → List ℕ
-entryRecords s g k v = joined s (λ p. joined g (λ z. joined s (λ q. deliveryRecord (kindOf k) p z q (v p z q))))
+entryRecords s g k v = joinTo (λ p. joinTo (λ z. joinTo (λ q. deliveryRecord (kindOf k) p z q (v p z q)) s) g) s
 
 unfoldable pub rowRecords : ℕ → ℕ → RowVector → List ℕ
-rowRecords s g r = joined s (λ p. joined g (λ z. deliveryRecord (kindOf Means) p z 0 (r p z)))
+rowRecords s g r = joinTo (λ p. joinTo (λ z. deliveryRecord (kindOf Means) p z 0 (r p z)) g) s
 
 -- The file of shape h with these uppers, lowers and mean steps. Lowers and mean steps that the shape does not have are left out.
 unfoldable pub madeDelivery : ℕ → ℕ → Shape → Vector → Vector → RowVector → List ℕ

@@ -5,7 +5,7 @@ use Rattle.ppda.specs.Equations.{Vector, RowVector}
 use Rattle.delivery.specs.declared.shape.Shape.{Shape}
 use Rattle.delivery.specs.Records.{valueAt}
 use Rattle.delivery.specs.Shapes.{meansFrom}
-use Rattle.ppda.specs.Order.{entriesIn, entryAt, rowAt}
+use Rattle.walks.specs.Order.{entriesIn, entryAt, rowAt}
 
 -- The uppers, the lowers and the mean steps of a file.
 unfoldable pub uppersOf : ℕ → ℕ → List ℕ → Vector

@@ -11,7 +11,7 @@ use Rattle.delivery.specs.declared.shape.Shaped.the-variants.{Of, Unknow
 use Rattle.delivery.specs.declared.shape.Block.the-variants.{Lowers}
 use Rattle.delivery.specs.Format.{recordBytes}
 use Rattle.delivery.specs.Records.{kindAt, kindOf}
-use Rattle.ppda.specs.Order.{entriesIn, rowsIn}
+use Rattle.walks.specs.Order.{entriesIn, rowsIn}
 
 -- Whether a shape has lowers, and whether it has mean steps.
 abbrev pub hasLowers : Shape → Bool

@@ -4,7 +4,7 @@ use mathlib.Core.List.{List}
 use mathlib.Core.Path.{_≡_}
 use lib.ListN.{length}
 use Rattle.outcome.specs.Tests.{Test, each}
-use Rattle.ppda.specs.Order.{rowsIn, entriesIn}
+use Rattle.walks.specs.Order.{rowsIn, entriesIn}
 use Rattle.ppda.specs.Units.{mostChance, mostMean}
 use Rattle.model.specs.declared.sizes.Sizes.{Sizes}
 use Rattle.model.specs.Sizes.{Fits}

@@ -11,7 +11,7 @@ use outcome::Outcome;
 ghost use mathlib.Core.Path.{_≡_};
 ghost use Prim.Native.Nat.{_*_};
 ghost use Rattle.outcome.specs.Tests.{first, each};
-ghost use Rattle.ppda.specs.Order.{rowsIn};
+ghost use Rattle.walks.specs.Order.{rowsIn};
 ghost use Rattle.model.specs.Sizes.{Fits};
 ghost use Rattle.delivery.specs.Shapes.{hasLowers};
 ghost use Rattle.delivery.specs.Layout.{onlyIf, lowerRecords, layoutTests};
@@ -57,13 +57,7 @@ fn check_state(
 }
 
 // The records of one block, which starts at record `from`.
-fn check_block(
-    delivery: &[u8],
-    block: Block,
-    from: usize,
-    exits: usize,
-    n: Sizes,
-) -> Outcome
+fn check_block(delivery: &[u8], block: Block, from: usize, exits: usize, n: Sizes) -> Outcome
     requires { ⌜ Fits (n .states) (n .symbols) × HasBlock from (rowsIn (n .states) (n .symbols) * exits) (now delivery) ⌝ }
     ensures { λ r. ⌜ r ≡ first (each (n .states) (stateOfBlock (now (delivery .entry)) block from exits (n .symbols))) ⌝ }
 {

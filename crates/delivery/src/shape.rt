@@ -6,7 +6,7 @@ use super::record::kind_at;
 use model::sizes::Sizes;
 ghost use mathlib.Core.Path.{_≡_};
 ghost use Prim.Native.Nat.{_+_, _≤_};
-ghost use Rattle.ppda.specs.Order.{entriesIn};
+ghost use Rattle.walks.specs.Order.{entriesIn};
 ghost use Rattle.model.specs.Format.{mostRows};
 ghost use Rattle.model.specs.Sizes.{Fits};
 ghost use Rattle.delivery.specs.Format.{mostRecords};

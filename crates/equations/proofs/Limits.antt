@@ -5,9 +5,9 @@ use native.Mathlib.Omega.{arith}
 use mathlib.Core.Bool.{Bool, true, false}
 use mathlib.Core.List.{List}
 use lib.Dec.{eqb}
-use Rattle.ppda.specs.Sums.{bit}
+use Rattle.walks.specs.Sums.{bit}
 use Rattle.ppda.specs.Units.{chanceUnit, mostChance, mostMean}
-use Rattle.ppda.specs.Order.{rowsIn, entriesIn}
+use Rattle.walks.specs.Order.{rowsIn, entriesIn}
 use Rattle.ppda.specs.Rules.{Push, nothing, one, two}
 use Rattle.ppda.specs.Equations.{through, stepsThrough}
 use Rattle.model.specs.Format.{mostStates}

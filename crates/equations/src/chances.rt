@@ -11,8 +11,8 @@ use model::sizes::Sizes;
 use rows::STARTS;
 ghost use mathlib.Core.Path.{_≡_};
 ghost use Prim.Native.Nat.{_^_, _≤_, _<_};
-ghost use Rattle.ppda.specs.Sums.{sumTo};
-ghost use Rattle.ppda.specs.Order.{rowsIn, entriesIn};
+ghost use Rattle.walks.specs.Sums.{sumTo};
+ghost use Rattle.walks.specs.Order.{rowsIn, entriesIn};
 ghost use Rattle.model.specs.Records.{recordsOf};
 ghost use Rattle.model.specs.Accepted.{Sized};
 ghost use Rattle.model.specs.Sizes.{Fits};
@@ -65,14 +65,7 @@ fn through(model: &[u8], i: usize, block: &[u8], n: Sizes, q: usize) -> u64
 }
 
 // f at the entry of a row, by its number, with exit q.
-pub fn f(
-    model: &[u8],
-    starts: &[u16; STARTS],
-    block: &[u8],
-    n: Sizes,
-    row: usize,
-    q: usize,
-) -> u64
+pub fn f(model: &[u8], starts: &[u16; STARTS], block: &[u8], n: Sizes, row: usize, q: usize) -> u64
     requires files { ⌜ Indexed (now model) n (now starts) × Chances n (now block) ⌝ }
     requires inside { ⌜ (row < rowsIn (n .states) (n .symbols)) × (q < n .states) ⌝ }
     ensures { λ r. ⌜ (r ≡ fOf (now (model .entry)) n (now (block .entry)) row q) × (r ≤ 2 ^ 61) ⌝ }

@@ -21,9 +21,9 @@ fn read(path: &[u8], out: &mut [u8]) -> usize
 pub fn report_on(model_path: &[u8], delivery_path: &[u8]) -> Printout
     ensures { λ r. ⌜ ReportOnSome r ⌝ }
 {
-    let mut model = [0u8; 10241];
+    let mut model = [0u8; model::format::MOST_BYTES + 1];
     let m = read(model_path, &mut model);
-    let mut delivery = [0u8; 17409];
+    let mut delivery = [0u8; delivery::format::MOST_BYTES + 1];
     let d = read(delivery_path, &mut delivery);
     report::of_files(&model[..m], &delivery[..d])
 }

@@ -5,9 +5,9 @@ use mathlib.Core.Path.{_≡_, ap₂, subst, _∙_}
 use lib.ListN.{length, take, getD}
 use Rattle.outcome.specs.declared.Outcome.the-variants.{Accepted}
 use Rattle.ppda.specs.Units.{chanceUnit, sumUnit}
-use Rattle.ppda.specs.Order.{entriesIn, rowAt}
+use Rattle.walks.specs.Order.{entriesIn, rowAt}
 use Rattle.ppda.specs.Equations.{entries, f, Same}
-use Rattle.ppda.proofs.Places.{row-at, entry-below}
+use Rattle.walks.proofs.Places.{row-at, entry-below}
 use Rattle.ppda.proofs.Vectors.{f-same}
 use Rattle.model.specs.declared.sizes.Sizes.{Sizes}
 use Rattle.model.specs.Sizes.{sizesOf}

@@ -8,7 +8,7 @@ use lib.Dec.{ltb, leb}
 use lib.ListN.{length}
 use borrow.Author.Tests.{leb-true}
 use Rattle.outcome.specs.declared.Outcome.the-variants.{Accepted}
-use Rattle.ppda.specs.Order.{entriesIn}
+use Rattle.walks.specs.Order.{entriesIn}
 use Rattle.model.specs.declared.sizes.Sizes.{Sizes}
 use Rattle.model.specs.Format.{mostBytes}
 use Rattle.model.specs.Records.{statesOf, symbolsOf}

@@ -9,7 +9,7 @@ use Rattle.delivery.specs.declared.shape.Shape.{Shape}
 use Rattle.model.specs.Format.{mostEntries}
 use Rattle.delivery.specs.Format.{recordBytes}
 use Rattle.delivery.specs.Shapes.{meansFrom}
-use Rattle.ppda.specs.Order.{entriesIn, rowsIn, rowAt}
+use Rattle.walks.specs.Order.{entriesIn, rowsIn, rowAt}
 use Rattle.delivery.specs.Numbers.{uppersOf, lowersOf, meansOf}
 use Rattle.held.specs.Lists.{Values}
 use Rattle.delivery.proofs.Walks.{rest-value}

@@ -13,17 +13,16 @@ use lib.Seq.{take-all, ext-getD, getD-take, getD-set-same, getD-set-other, lengt
 use borrow.Author.Tests.{ltb-true, ltb-false, lt-ltb, eqb-true, eqb-false, eq-eqb}
 use Rattle.outcome.specs.declared.Reason.{Reason}
 use Rattle.outcome.specs.declared.Outcome.the-variants.{Accepted, Refused}
-use Rattle.ppda.specs.Order.{entriesIn, rowAt, entryAt}
+use Rattle.walks.specs.Order.{entriesIn, rowAt, entryAt}
 use Rattle.ppda.specs.Equations.{Vector, RowVector, entries, rows, SameRows, Same}
 use Rattle.ppda.specs.Live.{alive}
-use Rattle.ppda.proofs.Lists.{getD-zeros}
-use Rattle.ppda.proofs.Places.{row-at, row-of, row-below, entry-below}
+use Rattle.walks.proofs.Lists.{getD-zeros, length-listTo, getD-listTo, listTo-ext}
+use Rattle.walks.proofs.Places.{row-at, row-of, row-below, entry-below}
 use Rattle.model.specs.Format.{mostEntries}
 use Rattle.model.specs.Records.{statesOf, symbolsOf}
 use Rattle.model.specs.Rules.{rulesOf}
 use Rattle.model.specs.Verdict.{modelVerdict}
 use Rattle.model.specs.Accepted.{Sized}
-use Rattle.model.proofs.Records.{length-listTo, getD-listTo, listTo-ext}
 use Rattle.model.proofs.Accepted.{model-accepted}
 use Rattle.delivery.specs.Records.{valueAt}
 use Rattle.delivery.specs.Numbers.{uppersOf, rowsOfBlock}

@@ -7,13 +7,13 @@ use lib.ListN.{length, getD, replicate}
 use Rattle.ppda.specs.Equations.{Vector, RowVector}
 use Rattle.model.specs.Format.{mostBytes, mostEntries}
 use Rattle.model.specs.Records.{statesOf, symbolsOf}
-use Rattle.model.specs.Rules.{listTo}
+use Rattle.walks.specs.Lists.{listTo}
 use Rattle.delivery.specs.declared.shape.Shape.{Shape}
 use Rattle.delivery.specs.declared.shape.Shape.the-variants.{U}
 use Rattle.delivery.specs.declared.shape.Shaped as Shapes
 use Rattle.delivery.specs.declared.shape.Shaped.the-variants as Shaped
 use Rattle.delivery.specs.Shapes.{hasLowers, hasMeans}
-use Rattle.ppda.specs.Order.{entriesIn, rowsIn}
+use Rattle.walks.specs.Order.{entriesIn, rowsIn}
 use Rattle.delivery.specs.Numbers.{uppersOf, lowersOf, meansOf}
 use Rattle.live.specs.Shown.{liveMark}
 use Rattle.certificate.specs.Margin.{marginOf}

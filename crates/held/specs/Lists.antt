@@ -3,7 +3,7 @@ use Prim.Native.Nat.{ℕ, _≤_, _<_}
 use mathlib.Core.List.{List}
 use mathlib.Core.Path.{_≡_}
 use lib.ListN.{length, getD}
-use Rattle.ppda.specs.Order.{entriesIn}
+use Rattle.walks.specs.Order.{entriesIn}
 use Rattle.ppda.specs.Equations.{Vector, Same, entries}
 use Rattle.model.specs.Format.{mostEntries}
 use Rattle.delivery.specs.Records.{valueAt}

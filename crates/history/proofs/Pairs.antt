@@ -12,8 +12,8 @@ use Rattle.outcome.specs.declared.Outcome.{Outcome}
 use Rattle.outcome.specs.declared.Outcome.the-variants.{Accepted, Refused}
 use Rattle.outcome.proofs.Exactly.{lt-exactly, le-exactly, eq-exactly, both}
 use Rattle.ppda.specs.Equations.{Vector, RowVector, entries, rows, SameRows, Same}
-use Rattle.ppda.specs.Order.{entriesIn}
-use Rattle.ppda.proofs.Sums.{all-exactly}
+use Rattle.walks.specs.Order.{entriesIn}
+use Rattle.walks.proofs.Sums.{all-exactly}
 use Rattle.model.specs.Records.{statesOf, symbolsOf}
 use Rattle.model.specs.Format.{mostBytes}
 use Rattle.model.specs.Verdict.{modelVerdict}

@@ -8,8 +8,8 @@ use lib.Dec.{eqb, ltb}
 use Rattle.outcome.specs.declared.Outcome.{Outcome}
 use Rattle.outcome.specs.declared.Outcome.the-variants.{Accepted, Refused}
 use Rattle.outcome.specs.Reasons.{numberOf}
-use Rattle.ppda.specs.Sums.{allTo}
-use Rattle.ppda.specs.Order.{entriesIn}
+use Rattle.walks.specs.Sums.{allTo}
+use Rattle.walks.specs.Order.{entriesIn}
 use Rattle.model.specs.Records.{statesOf, symbolsOf}
 use Rattle.model.specs.Verdict.{modelVerdict}
 use Rattle.delivery.specs.declared.shape.Shape.{Shape}

@@ -8,14 +8,14 @@ use mathlib.Core.List.{List}
 use mathlib.Core.Path.{_≡_, refl, sym, ap, ap₂, _∙_}
 use lib.Dec.{lit<}
 use lib.ListN.{getD}
-use Rattle.ppda.specs.Sums.{leastTo}
+use Rattle.walks.specs.Sums.{leastTo}
 use Rattle.ppda.specs.Units.{chanceUnit, sumUnit}
-use Rattle.ppda.specs.Order.{rowsIn, entryIn}
+use Rattle.walks.specs.Order.{rowsIn, entryIn}
 use Rattle.ppda.specs.Equations.{f}
 use Rattle.ppda.specs.Live.{isLive}
 use Rattle.ppda.specs.Margin.{share, shareAt}
-use Rattle.ppda.proofs.Sums.{leastTo-le-top, leastTo-le-term, leastTo-greatest}
-use Rattle.ppda.proofs.Places.{row-of, row-at, row-below}
+use Rattle.walks.proofs.Sums.{leastTo-le-top, leastTo-le-term, leastTo-greatest}
+use Rattle.walks.proofs.Places.{row-of, row-at, row-below}
 use Rattle.model.specs.declared.sizes.Sizes.{Sizes}
 use Rattle.model.specs.Rules.{rulesOf}
 use Rattle.model.proofs.Accepted.{sized-fits}

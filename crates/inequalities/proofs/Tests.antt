@@ -20,7 +20,7 @@ use Rattle.outcome.specs.Tests.{Test, first}
 use Rattle.outcome.proofs.Tests.{first-fails, first-passes, first-empty}
 use Rattle.outcome.proofs.Differences.{difference-exact, shortfall-fits}
 use Rattle.ppda.specs.Units.{chanceUnit, mostChance, stepUnit, mostMean, sumUnit}
-use Rattle.ppda.specs.Order.{entryIn}
+use Rattle.walks.specs.Order.{entryIn}
 use Rattle.ppda.specs.Equations.{f, meanSide}
 use Rattle.ppda.specs.Live.{isLive}
 use Rattle.model.specs.Rules.{rulesOf}

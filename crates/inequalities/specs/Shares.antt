@@ -3,9 +3,9 @@ use Prim.Native.Nat.{ℕ, _-_, _*_, _/_, _%_, _≤_, _<_}
 use mathlib.Core.Bool.{Bool, true}
 use mathlib.Core.List.{List}
 use mathlib.Core.Path.{_≡_}
-use Rattle.ppda.specs.Sums.{leastTo}
+use Rattle.walks.specs.Sums.{leastTo}
 use Rattle.ppda.specs.Units.{chanceUnit, sumUnit}
-use Rattle.ppda.specs.Order.{AtEntries}
+use Rattle.walks.specs.Order.{AtEntries}
 use Rattle.ppda.specs.Equations.{Vector, f}
 use Rattle.ppda.specs.Live.{isLive}
 use Rattle.ppda.specs.Margin.{shareAt}

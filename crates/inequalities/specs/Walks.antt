@@ -4,7 +4,7 @@ use mathlib.Core.Bool.{Bool, true, false}
 use mathlib.Core.List.{List, [], _∷_}
 use Rattle.outcome.specs.Tests.{Test, each}
 use Rattle.ppda.specs.Units.{chanceUnit, stepUnit}
-use Rattle.ppda.specs.Order.{entriesIn, rowAt, entryAt}
+use Rattle.walks.specs.Order.{entriesIn, rowAt, entryAt}
 use Rattle.ppda.specs.Equations.{f, meanSide}
 use Rattle.ppda.specs.Live.{isLive}
 use Rattle.model.specs.declared.sizes.Sizes.{Sizes}

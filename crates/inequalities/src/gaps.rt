@@ -7,7 +7,7 @@ use model::sizes::Sizes;
 use rows::STARTS;
 ghost use mathlib.Core.Path.{_≡_};
 ghost use Prim.Native.Nat.{_/_, _%_, _<_};
-ghost use Rattle.ppda.specs.Order.{rowsIn};
+ghost use Rattle.walks.specs.Order.{rowsIn};
 ghost use Rattle.inequalities.specs.Shares.{gapAt, Standing};
 
 // u − f(u) at the entry of a row, by its number, with exit q.

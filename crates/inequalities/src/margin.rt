@@ -12,7 +12,7 @@ use rows::STARTS;
 ghost use mathlib.Core.Path.{_≡_};
 ghost use Prim.Native.Nat.{_*_, _≤_, _<_};
 ghost use Rattle.ppda.specs.Units.{mostChance, sumUnit};
-ghost use Rattle.ppda.specs.Order.{rowsIn};
+ghost use Rattle.walks.specs.Order.{rowsIn};
 ghost use Rattle.ppda.specs.Margin.{share, shareAt};
 ghost use Rattle.inequalities.specs.Shares.{StrictAt, StrictBlock, leastInRow, leastShare};
 

@@ -11,7 +11,7 @@ use outcome::refused;
 ghost use mathlib.Core.Path.{_≡_};
 ghost use Prim.Native.Nat.{_≤_, _<_};
 ghost use Rattle.outcome.specs.Tests.{first, each};
-ghost use Rattle.ppda.specs.Order.{rowsIn, entriesIn};
+ghost use Rattle.walks.specs.Order.{rowsIn, entriesIn};
 ghost use Rattle.model.specs.Format.{mostEntries};
 ghost use Rattle.model.specs.Sizes.{Fits};
 ghost use Rattle.delivery.specs.Walks.{HasRecords};

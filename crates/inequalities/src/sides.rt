@@ -16,7 +16,7 @@ ghost use mathlib.Core.List.{[], _∷_};
 ghost use Prim.Native.Nat.{_^_, _≤_, _<_};
 ghost use Rattle.outcome.specs.Tests.{first};
 ghost use Rattle.ppda.specs.Units.{mostChance};
-ghost use Rattle.ppda.specs.Order.{rowsIn};
+ghost use Rattle.walks.specs.Order.{rowsIn};
 ghost use Rattle.model.specs.Format.{mostEntries};
 ghost use Rattle.model.specs.Sizes.{Fits};
 ghost use Rattle.delivery.specs.Walks.{Chances};

@@ -5,6 +5,8 @@ use mathlib.Core.List.{List}
 use mathlib.Core.Path.{_≡_}
 use lib.Dec.{eqb, leb, ltb}
 use lib.ListN.{length, take, drop}
+use Rattle.model.specs.Format as model
+use Rattle.delivery.specs.Format as delivery
 use Rattle.lent.specs.declared.record.Kind.{Kind}
 use Rattle.lent.specs.declared.record.Kind.the-variants.{Model, Delivery}
 
@@ -28,8 +30,8 @@ pub record Lying {A : Type 0} (block : A) (offset : ℕ) (bytes : List ℕ) (x :
 
 -- The bytes of a record of each kind of file.
 abbrev pub sizeOf : Kind → ℕ
-sizeOf Model = 10
-sizeOf Delivery = 8
+sizeOf Model = model.recordBytes
+sizeOf Delivery = delivery.recordBytes
 
 -- Record i is whole in the file.
 unfoldable pub isWhole : Kind → List ℕ → ℕ → Bool

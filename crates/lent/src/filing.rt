@@ -14,7 +14,10 @@ pub struct Receipt {
 
 // Files a model in the lent register.
 pub fn file_model(held: &mut Register, file: &[u8]) -> Outcome
-    ensures { λ r. ⌜ (now (held .exit) ≡ fileModel (now (held .entry)) (now (file .entry)) .register) × (r ≡ fileModel (now (held .entry)) (now (file .entry)) .outcome) ⌝ }
+    ensures { λ r. ⌜
+        (now (held .exit) ≡ fileModel (now (held .entry)) (now (file .entry)) .register)
+        × (r ≡ fileModel (now (held .entry)) (now (file .entry)) .outcome)
+        ⌝ }
 {
     let filed = (*held).file_model(file);
     *held = filed.register;
@@ -23,7 +26,11 @@ pub fn file_model(held: &mut Register, file: &[u8]) -> Outcome
 
 // Files a delivery for the model of the lent register.
 pub fn file_delivery(held: &mut Register, file: &[u8]) -> Receipt
-    ensures { λ r. ⌜ (now (held .exit) ≡ fileDelivery (now (held .entry)) (now (file .entry)) .register) × (r .outcome ≡ fileDelivery (now (held .entry)) (now (file .entry)) .outcome) × (r .mark ≡ fileDelivery (now (held .entry)) (now (file .entry)) .mark) ⌝ }
+    ensures { λ r. ⌜
+        (now (held .exit) ≡ fileDelivery (now (held .entry)) (now (file .entry)) .register)
+        × (r .outcome ≡ fileDelivery (now (held .entry)) (now (file .entry)) .outcome)
+        × (r .mark ≡ fileDelivery (now (held .entry)) (now (file .entry)) .mark)
+        ⌝ }
 {
     let received = (*held).file_delivery(file);
     *held = received.register;

@@ -30,7 +30,12 @@ fn names_model(number: u32) -> bool
 // The offending record of a refusal's number and place: 11 to 14 name a record of the model, 21 to 27 one of the delivery. For 10 and 15 it is the
 // empty part at the start of the model; for every other number, and where the record is not whole, the empty part at the start of the delivery.
 pub fn offending<'a>(model: &'a [u8], delivery: &'a [u8], number: u32, place: usize) -> &'a [u8]
-    ensures { λ r. ⌜ LyingIn (offendingPart number place (now (model .entry)) (now (delivery .entry))) (model .entry .ptr .0) (model .entry .ptr .1) (now (model .entry)) (delivery .entry .ptr .0) (delivery .entry .ptr .1) (now (delivery .entry)) (r .ptr .0) (r .ptr .1) (now r) ⌝ }
+    ensures { λ r. ⌜
+        LyingIn (offendingPart number place (now (model .entry)) (now (delivery .entry)))
+        (model .entry .ptr .0) (model .entry .ptr .1) (now (model .entry))
+        (delivery .entry .ptr .0) (delivery .entry .ptr .1) (now (delivery .entry))
+        (r .ptr .0) (r .ptr .1) (now r)
+        ⌝ }
 {
     if names_model(number) {
         return &model[..0];

@@ -14,8 +14,8 @@ pub fn size_of(kind: Kind) -> usize
     ensures { λ r. ⌜ r ≡ sizeOf kind ⌝ }
 {
     match kind {
-        Kind::Model => 10,
-        Kind::Delivery => 8,
+        Kind::Model => model::format::RECORD_BYTES,
+        Kind::Delivery => delivery::format::RECORD_BYTES,
     }
 }
 
@@ -28,7 +28,10 @@ pub fn is_whole(file: &[u8], kind: Kind, i: usize) -> bool
 
 // Record i, or the empty part at the start of the file where it is not whole.
 pub fn record_at(file: &[u8], kind: Kind, i: usize) -> &[u8]
-    ensures { λ r. ⌜ Lying (file .entry .ptr .0) (file .entry .ptr .1) (now (file .entry)) (recordPart kind (now (file .entry)) i) (r .ptr .0) (r .ptr .1) (now r) ⌝ }
+    ensures { λ r. ⌜
+        Lying (file .entry .ptr .0) (file .entry .ptr .1) (now (file .entry)) (recordPart kind (now (file .entry)) i)
+        (r .ptr .0) (r .ptr .1) (now r)
+        ⌝ }
 {
     if is_whole(file, kind, i) {
         let size = size_of(kind);

@@ -22,7 +22,11 @@ pub fn walk<'a>(file: &'a [u8]) -> Walker<'a>
 
 // The record that is next, or the empty part at the start of the file where there is none.
 pub fn current<'a>(w: Walker<'a>, kind: Kind) -> &'a [u8]
-    ensures { λ r. ⌜ Lying (w .entry .file .ptr .0) (w .entry .file .ptr .1) (now (w .entry .file)) (recordPart kind (now (w .entry .file)) (w .entry .next)) (r .ptr .0) (r .ptr .1) (now r) ⌝ }
+    ensures { λ r. ⌜
+        Lying (w .entry .file .ptr .0) (w .entry .file .ptr .1) (now (w .entry .file))
+        (recordPart kind (now (w .entry .file)) (w .entry .next))
+        (r .ptr .0) (r .ptr .1) (now r)
+        ⌝ }
 {
     record_at(w.file, kind, w.next)
 }
@@ -39,7 +43,10 @@ pub fn moved<'a>(w: Walker<'a>, kind: Kind) -> Walker<'a>
 
 // The first record of a file, for callers that hold no walker.
 pub fn first_record<'a>(file: &'a [u8], kind: Kind) -> &'a [u8]
-    ensures { λ r. ⌜ Lying (file .entry .ptr .0) (file .entry .ptr .1) (now (file .entry)) (recordPart kind (now (file .entry)) 0) (r .ptr .0) (r .ptr .1) (now r) ⌝ }
+    ensures { λ r. ⌜
+        Lying (file .entry .ptr .0) (file .entry .ptr .1) (now (file .entry)) (recordPart kind (now (file .entry)) 0)
+        (r .ptr .0) (r .ptr .1) (now r)
+        ⌝ }
 {
     current(walk(file), kind)
 }

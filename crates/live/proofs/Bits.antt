@@ -8,10 +8,10 @@ use mathlib.Core.Path.{_≡_, refl, sym, ap, ap₂, _∙_}
 use lib.Bits.{bitOr, or-step, or-shr}
 use lib.Dec.{eqb, eqb·zero-suc, eqb·suc-zero, eqb·suc-suc, lit≤}
 use lib.ListN.{getD}
-use Rattle.ppda.specs.Sums.{bit, sign, sumTo}
+use Rattle.walks.specs.Sums.{bit, sign, sumTo}
 use Rattle.ppda.specs.Rules.{Push, nothing, one, two}
 use Rattle.ppda.specs.Equations.{through, f}
-use Rattle.ppda.proofs.Sums.{sumTo-step}
+use Rattle.walks.proofs.Sums.{sumTo-step}
 use Rattle.model.specs.Records.{target, weight}
 use Rattle.live.specs.Exits.{bitOf, exitMarks}
 use Rattle.rows.specs.Starts.{Starts}

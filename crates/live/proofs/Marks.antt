@@ -11,13 +11,13 @@ use lib.Dec.{eqb}
 use lib.ListN.{length, getD, set, replicate, length-set, length-replicate}
 use lib.Seq.{getD-set-same, getD-set-other}
 use borrow.Author.Tests.{eqb-true, eqb-false}
-use Rattle.ppda.specs.Sums.{sign}
+use Rattle.walks.specs.Sums.{sign}
 use Rattle.ppda.specs.Rules.{Rule, IsModel}
 use Rattle.ppda.specs.Equations.{Same, f}
 use Rattle.ppda.specs.Live.{mark, alive}
 use Rattle.model.specs.Rules.{rulesOf}
-use Rattle.ppda.proofs.Lists.{getD-zeros}
-use Rattle.ppda.proofs.Places.{row-at, row-below}
+use Rattle.walks.proofs.Lists.{getD-zeros}
+use Rattle.walks.proofs.Places.{row-at, row-below}
 use Rattle.live.specs.Exits.{bitOf, exitMarks}
 use Rattle.live.specs.Exits.{ExitsOf}
 use Rattle.model.specs.Accepted.{Sized}

@@ -3,8 +3,8 @@ use Prim.Native.Nat.{ℕ, _*_, _/_, _%_, _<_}
 use mathlib.Core.List.{List}
 use mathlib.Core.Path.{_≡_}
 use lib.ListN.{length}
-use Rattle.ppda.specs.Sums.{sign}
-use Rattle.ppda.specs.Order.{rowAt}
+use Rattle.walks.specs.Sums.{sign}
+use Rattle.walks.specs.Order.{rowAt}
 use Rattle.ppda.specs.Equations.{rows, through, f}
 use Rattle.model.specs.declared.sizes.Sizes.{Sizes}
 use Rattle.model.specs.Format.{mostRows}

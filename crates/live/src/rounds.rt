@@ -9,7 +9,7 @@ ghost use mathlib.Core.Bool.{true};
 ghost use Prim.Native.Nat.{ℕ, _≤_, _<_};
 ghost use lib.ListN.{length, getD, replicate};
 ghost use Rattle.ppda.specs.Live.{alive};
-ghost use Rattle.ppda.specs.Order.{rowsIn};
+ghost use Rattle.walks.specs.Order.{rowsIn};
 ghost use Rattle.model.specs.Format.{mostRows};
 ghost use Rattle.model.specs.Rules.{rulesOf};
 ghost use Rattle.rows.specs.Starts.{Indexed};

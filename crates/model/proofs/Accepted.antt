@@ -9,14 +9,14 @@ use lib.Dec.{eqb, leb, ltb}
 use lib.IntN.{ℤ}
 use lib.ListN.{length}
 use borrow.Author.Tests.{ltb-true, ltb-false, eqb-true, eqb-false, not-false, lt-ltb, le-ltb, eq-eqb, ne-eqb}
-use Rattle.ppda.proofs.Places.{row-split, row-below}
+use Rattle.walks.proofs.Places.{row-split, row-below}
 use Rattle.outcome.specs.declared.Reason.{Reason}
 use Rattle.outcome.specs.declared.Outcome.the-variants.{Accepted, Refused}
 use Rattle.outcome.specs.Tests.{Test, refusal, first, each, Passed, FirstFailure}
 use Rattle.outcome.proofs.Exactly.{lt-exactly, le-exactly, eq-exactly, both, or-exactly, not-exactly}
 use Rattle.outcome.proofs.Tests.{accepted-exactly, refused-exactly, first-failure, passed-append, passed-each}
 use Rattle.ppda.specs.Units.{weightUnit}
-use Rattle.ppda.specs.Order.{rowsIn, rowAt}
+use Rattle.walks.specs.Order.{rowsIn, rowAt}
 use Rattle.ppda.specs.Rules.{pushed, Below, IsRule, IsModel}
 use Rattle.model.specs.Format.{recordBytes, mostBytes, mostStates, mostSymbols, mostPushes}
 use Rattle.model.specs.Records.{HasRecord, recordsOf, statesOf, symbolsOf, state, symbol, target, pushes, top, under, weight, key}
@@ -25,7 +25,8 @@ use Rattle.model.specs.Verdict.{wholeRecords, rangeAt, unusedAt, weightA
 use Rattle.model.specs.Accepted.{RecordRight, Above, RecordsRight, ModelFile, Sized}
 use Rattle.model.specs.Sizes.{sizesOf, Fits}
 use Rattle.model.specs.declared.sizes.Sizes.{Sizes}
-use Rattle.model.proofs.Records.{in-listTo, sizes-fit, state-below, target-below, symbol-below, top-below, under-below}
+use Rattle.model.proofs.Records.{sizes-fit, state-below, target-below, symbol-below, top-below, under-below}
+use Rattle.walks.proofs.Lists.{in-listTo}
 use Rattle.model.proofs.Rows.{row-sum}
 
 -- ---- tests and what they say

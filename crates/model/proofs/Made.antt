@@ -10,26 +10,17 @@ use lib.ListN.{length, getD, take, drop, length-append}
 use lib.Seq.{getD-append-add, take-length, take-add}
 use Rattle.words.specs.Words.{wordAt, Bytes}
 use Rattle.words.proofs.Words.{bytes-none, bytes-cons, bytes-append, four-are-bytes, part-next, word-past, word-made, made-word}
-use Rattle.ppda.specs.Sums.{In}
+use Rattle.walks.specs.Sums.{In}
 use Rattle.ppda.specs.Rules.{Push, nothing, one, two, pushed, Rule, rule, Below}
 use Rattle.model.specs.Format.{recordBytes, weightByte}
 use Rattle.model.specs.Records.{recordsOf, field, state, symbol, target, pushes, top, under, weight}
-use Rattle.model.specs.Rules.{pushOf, ruleOf, listTo, rulesOf}
+use Rattle.model.specs.Rules.{pushOf, ruleOf, rulesOf}
+use Rattle.walks.specs.Lists.{listTo}
 use Rattle.model.specs.Accepted.{RecordRight, ModelFile}
 use Rattle.model.specs.Made.{modelRecord, pushRecord, ruleRecord, madeModel, RuleFits}
+use Rattle.walks.proofs.Lists.{listTo-cong, listTo-first}
 
 -- ---- reading what was made
-
-listTo-cong : {A : Type 0} (h k : ℕ → A) (n : ℕ) → ((i : ℕ) → h i ≡ k i) → listTo h n ≡ listTo k n
-unfolding listTo
-listTo-cong h k zero e = refl
-listTo-cong h k (suc n) e = ap₂ (λ l x. l ++ (x ∷ [])) (listTo-cong h k n e) (e n)
-
--- The first of the list, and the others.
-listTo-first : {A : Type 0} (h : ℕ → A) (n : ℕ) → listTo h (suc n) ≡ h 0 ∷ listTo (λ i. h (suc i)) n
-unfolding listTo
-listTo-first h zero = refl
-listTo-first h (suc n) = ap (λ l. l ++ (h (suc n) ∷ [])) (listTo-first h n)
 
 pub record-size : (r : Rule) → length (ruleRecord r) ≡ 10
 record-size r = go (r .push)

@@ -11,12 +11,12 @@ use lib.Dec.{eqb}
 use lib.ListN.{length, getD, set, replicate, length-set, getD-replicate}
 use lib.Seq.{getD-set-same, getD-set-other}
 use borrow.Author.Tests.{eqb-true, eqb-false, eq-eqb, ne-eqb}
-use Rattle.ppda.proofs.Places.{row-lower, row-once}
-use Rattle.ppda.specs.Sums.{bit, sumTo}
+use Rattle.walks.proofs.Places.{row-lower, row-once}
+use Rattle.walks.specs.Sums.{bit, sumTo}
 use Rattle.ppda.specs.Units.{weightUnit}
-use Rattle.ppda.specs.Order.{rowsIn}
+use Rattle.walks.specs.Order.{rowsIn}
 use Rattle.ppda.specs.Rules.{fits, overRow}
-use Rattle.ppda.proofs.Sums.{sumTo-cong, sumTo-le, sumTo-step}
+use Rattle.walks.proofs.Sums.{sumTo-cong, sumTo-le, sumTo-step}
 use Rattle.ppda.proofs.Rows.{fits-exactly}
 use Rattle.model.specs.declared.sizes.Sizes.{Sizes}
 use Rattle.model.specs.Format.{mostRows}

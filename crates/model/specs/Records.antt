@@ -4,6 +4,7 @@ use mathlib.Core.List.{List, [], _∷_}
 use lib.ListN.{length, getD}
 use Rattle.words.specs.Words.{wordAt}
 use Rattle.model.specs.Format.{recordBytes, stateByte, symbolByte, targetByte, pushesByte, topByte, underByte, weightByte}
+use Rattle.walks.specs.Sums.{greatestTo}
 
 -- How many whole records the file has.
 unfoldable pub recordsOf : List ℕ → ℕ
@@ -44,11 +45,6 @@ weight b i = wordAt b (recordBytes * i + weightByte)
 -- What record i says but its weight, by which records ascend.
 abbrev pub key : List ℕ → ℕ → List ℕ
 key b i = state b i ∷ symbol b i ∷ target b i ∷ pushes b i ∷ top b i ∷ under b i ∷ []
-
--- The greatest of 0, h 0, h 1, …, h (n − 1).
-unfoldable pub greatestTo : (ℕ → ℕ) → ℕ → ℕ
-greatestTo h zero = 0
-greatestTo h (suc n) = max (greatestTo h n) (h n)
 
 -- The greatest state and the greatest symbol that record i names. An unused Y or X is 0, so it names no greater symbol.
 abbrev pub stateNamed : List ℕ → ℕ → ℕ

@@ -2,10 +2,11 @@
 use Prim.Native.Nat.{ℕ, zero, suc, _*_}
 use mathlib.Core.List.{List, [], _∷_, _++_}
 use lib.Dec.{eqb}
-use Rattle.ppda.specs.Sums.{bit, sumTo}
-use Rattle.ppda.specs.Order.{rowAt}
+use Rattle.walks.specs.Sums.{bit, sumTo}
+use Rattle.walks.specs.Order.{rowAt}
 use Rattle.ppda.specs.Rules.{Push, nothing, one, two, Rule, rule}
 use Rattle.model.specs.Records.{recordsOf, state, symbol, target, pushes, top, under, weight}
+use Rattle.walks.specs.Lists.{listTo}
 
 -- What L, Y and X push, and what record i does.
 abbrev pub pushOf : ℕ → ℕ → ℕ → Push
@@ -19,11 +20,6 @@ pushAt b i = pushOf (pushes b i) (top b i) (under b i)
 -- The rule of record i.
 unfoldable pub ruleOf : List ℕ → ℕ → Rule
 ruleOf b i = rule (state b i) (symbol b i) (target b i) (pushAt b i) (weight b i)
-
--- h 0, h 1, …, h (n − 1).
-unfoldable pub listTo : {A : Type 0} → (ℕ → A) → ℕ → List A
-listTo h zero = []
-listTo h (suc n) = listTo h n ++ (h n ∷ [])
 
 -- The rules of the file, one a record.
 unfoldable pub rulesOf : List ℕ → List Rule

@@ -1,7 +1,7 @@
 -- How large a model is: its states and symbols, and the limits that an accepted one keeps.
 use Prim.Native.Nat.{ℕ, _≤_, _<_}
 use mathlib.Core.List.{List}
-use Rattle.ppda.specs.Order.{rowsIn, entriesIn}
+use Rattle.walks.specs.Order.{rowsIn, entriesIn}
 use Rattle.model.specs.declared.sizes.Sizes.{Sizes}
 use Rattle.model.specs.Format.{mostStates, mostSymbols, mostRows, mostEntries}
 use Rattle.model.specs.Records.{statesOf, symbolsOf}

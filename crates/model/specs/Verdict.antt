@@ -8,7 +8,7 @@ use Rattle.outcome.specs.declared.Outcome.{Outcome}
 use Rattle.outcome.specs.declared.Reason.the-variants.{ModelLength, OutOfRange, UnusedNotZero, WeightOutOfRange, NotAscending, RowSumWrong}
 use Rattle.outcome.specs.Tests.{Test, plain, first, each}
 use Rattle.ppda.specs.Units.{weightUnit}
-use Rattle.ppda.specs.Order.{rowsIn}
+use Rattle.walks.specs.Order.{rowsIn}
 use Rattle.model.specs.Format.{recordBytes, mostBytes, mostStates, mostSymbols, mostPushes}
 use Rattle.model.specs.Records.{recordsOf, statesOf, symbolsOf, state, symbol, target, pushes, top, under, weight, field, key}
 use Rattle.model.specs.Rules.{rowSum}

@@ -8,7 +8,7 @@ use super::record::top;
 use super::record::under;
 ghost use mathlib.Core.Path.{_≡_};
 ghost use Prim.Native.Nat.{_≤_, _<_, max};
-ghost use Rattle.ppda.specs.Order.{rowsIn, entriesIn, rowAt, entryIn, entryAt};
+ghost use Rattle.walks.specs.Order.{rowsIn, entriesIn, rowAt, entryIn, entryAt};
 ghost use Rattle.model.specs.Format.{mostRows, mostEntries};
 ghost use Rattle.model.specs.Records.{HasRecord, recordsOf, stateNamed, symbolNamed, statesOf, symbolsOf};
 ghost use Rattle.model.specs.Sizes.{sizesOf, Fits, Narrow};

@@ -8,6 +8,8 @@ use mathlib.Core.List.{List, [], _∷_, _++_}
 use mathlib.Core.Logic.{_↔_, _⊎_, inl, inr}
 use mathlib.Core.Path.{_≡_, refl, sym, ap, ap₂, _∙_}
 use lib.IntN.{ℤ}
+use Rattle.walks.specs.Lists.{joinTo}
+use Rattle.walks.proofs.Sums.{last-or-below}
 use Rattle.outcome.specs.declared.Reason.{Reason}
 use Rattle.outcome.specs.declared.Outcome.{Outcome}
 use Rattle.outcome.specs.declared.Outcome.the-variants.{Accepted, Refused}
@@ -104,29 +106,21 @@ first-failure (t ∷ ts) r i k e =
 -- ---- the tests of 0, 1, …, n − 1
 
 each-step : (h : ℕ → List Test) (i : ℕ) → each (i + 1) h ≡ each i h ++ h i
-unfolding each
+unfolding each joinTo
 each-step h i = rw add-one
 
 -- Where a loop begins, and one more turn of it.
 pub each-none : (h : ℕ → List Test) → first (each 0 h) ≡ Accepted
-unfolding each
+unfolding each joinTo
 each-none h = first-empty
 
 pub each-more : (h : ℕ → List Test) (i : ℕ) → first (each i h) ≡ Accepted → first (h i) ≡ Accepted → first (each (i + 1) h) ≡ Accepted
 each-more h i e f = ap first (each-step h i) ∙ first-after (each i h) (h i) e ∙ f
 
--- Below suc n is n, or below n.
-pub last-or-below : {P : Type 0} (i n : ℕ) → i < suc n → (i ≡ n → P) → (i < n → P) → P
-last-or-below {P} i n l last below = go (eq-or-lt-of-le (le-of-suc-le-suc l))
-  where
-    go : (i ≡ n) ⊎ (i < n) → P
-    go (inl e) = last e
-    go (inr b) = below b
-
 -- The first list of tests that is refused decides for all.
 pub each-hit : (h : ℕ → List Test) (n i : ℕ) → i < n → first (each i h) ≡ Accepted → (first (h i) ≡ Accepted → ⊥)
     → first (each n h) ≡ first (h i)
-unfolding each
+unfolding each joinTo
 each-hit h zero i l e x = absurd (omega arith)
 each-hit h (suc n) i l e x =
     last-or-below i n l
@@ -153,7 +147,7 @@ each-end h n i a e = rw e at a
 
 -- Equal tests at each number below n are equal tests in all.
 pub each-cong : (h k : ℕ → List Test) (n : ℕ) → ((i : ℕ) → i < n → h i ≡ k i) → each n h ≡ each n k
-unfolding each
+unfolding each joinTo
 each-cong h k zero e = refl
 each-cong h k (suc n) e = ap₂ _++_ (each-cong h k n (λ i l. e i (omega arith))) (e n (omega arith))
 
@@ -170,7 +164,7 @@ passed-append (t ∷ xs) ys = (
 )
 
 pub passed-each : (n : ℕ) (h : ℕ → List Test) → Passed (each n h) ↔ ((i : ℕ) → i < n → Passed (h i))
-unfolding each
+unfolding each joinTo
 passed-each zero h = (λ p i l. absurd (omega arith), λ p. tt)
 passed-each (suc n) h = (
   λ p i l. let q = passed-append (each n h) (h n) .0 p in last-or-below i n l (λ e. rw e (q .1)) (λ b. passed-each n h .0 (q .0) i b),
@@ -209,7 +203,7 @@ module _ {P : Reason → ℕ → Type 0} where
           f .refused r i k (sym (first-stands xs ys (λ a. refusal-not-accepted (first xs) a q)) ∙ e)
 
   pub refusals-each : (m : ℕ) {h : ℕ → List Test} → ((i : ℕ) → i < m → Refusals P (h i)) → Refusals P (each m h)
-  unfolding each
+  unfolding each joinTo
   refusals-each zero f = refusals-none
   refusals-each (suc m) f = refusals-append (refusals-each m (λ i l. f i (omega arith))) (λ a. f m (omega arith))
 

@@ -1,10 +1,11 @@
 -- A check is a list of tests in a fixed order, and its outcome is the first that fails (document 01, "Reasons found in the files, in
 -- order").
-use Prim.Native.Nat.{ℕ, zero, suc}
+use Prim.Native.Nat.{ℕ}
 use mathlib.Core.Bool.{Bool, true, false, cond}
 use mathlib.Core.List.{List, [], _∷_, _++_}
 use mathlib.Core.Path.{_≡_}
 use lib.IntN.{ℤ, pos}
+use Rattle.walks.specs.Lists.{joinTo}
 use Rattle.outcome.specs.declared.Reason.{Reason}
 use Rattle.outcome.specs.declared.Outcome.{Outcome}
 use Rattle.outcome.specs.declared.Outcome.the-variants.{Accepted, Refused}
@@ -37,8 +38,7 @@ first (t ∷ ts) = cond (t .fails) (refusal t) (first ts)
 
 -- The tests of 0, 1, …, n − 1, one after the other.
 unfoldable pub each : ℕ → (ℕ → List Test) → List Test
-each zero h = []
-each (suc n) h = each n h ++ h n
+each n h = joinTo h n
 
 -- No test of the list fails.
 abbrev pub Passed : List Test → Type 0

@@ -4,11 +4,11 @@ use native.Mathlib.Nat.{le-refl, le-of-eq, mul-le-mul, mul-le-mul-left}
 use native.Mathlib.Omega.{arith}
 use mathlib.Core.List.{List, [], _∷_, _++_}
 use lib.Pow.{pow-add}
-use Rattle.ppda.specs.Sums.{In}
+use Rattle.walks.specs.Sums.{In}
 use Rattle.ppda.specs.Rules.{Rule, Push, nothing, one, two, pushed, Below, IsModel}
 use Rattle.ppda.specs.Chances.{chanceFrom, chance}
 use Rattle.ppda.specs.Equations.{Vector, through, f}
-use Rattle.ppda.proofs.Sums.{sumTo-scaled}
+use Rattle.walks.proofs.Sums.{sumTo-scaled}
 use Rattle.ppda.proofs.Rows.{row-mono, row-mul, row-scaled}
 use Rattle.ppda.proofs.Steps.{chance-empty, chance-step}
 use Rattle.ppda.proofs.Stacks.{followed, chance-grows-by, chance-split, chance-join}

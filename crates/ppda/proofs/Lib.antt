@@ -1,8 +1,5 @@
 -- The theorems: mission point 3 over lists of rules and vectors.
 pub mod W
-pub mod Sums
-pub mod Lists
-pub mod Places
 pub mod Rows
 pub mod Steps
 pub mod Stacks

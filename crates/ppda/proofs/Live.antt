@@ -9,13 +9,13 @@ use mathlib.Core.Logic.{inl, _↔_}
 use mathlib.Core.Option.{none, some}
 use lib.Dec.{eqb}
 use borrow.Author.Tests.{eq-eqb, eqb-true}
-use Rattle.ppda.specs.Sums.{bit, In}
+use Rattle.walks.specs.Sums.{bit, In}
 use Rattle.ppda.specs.Rules.{Push, nothing, one, two, pushed, Rule, fits, Below, IsModel}
 use Rattle.ppda.specs.Runs.{Config, at, after, lists}
 use Rattle.ppda.specs.Equations.{Vector, through, f}
 use Rattle.ppda.specs.Live.{Live, mark, isLive, alive}
-use Rattle.ppda.proofs.Sums.{left-of-product, right-of-product, sumTo-positive, term-le-sumTo}
-use Rattle.ppda.proofs.Lists.{in-flatMap, in-map, of-in-flatMap, of-in-map}
+use Rattle.walks.proofs.Sums.{left-of-product, right-of-product, sumTo-positive, term-le-sumTo}
+use Rattle.walks.proofs.Lists.{in-flatMap, in-map, of-in-flatMap, of-in-map}
 use Rattle.ppda.proofs.Stacks.{below-append}
 use Rattle.ppda.proofs.Marks.{Inside, alive-closed, bit-true, f-positive, is-live, mark-suc, no-mark}
 

@@ -13,7 +13,7 @@ use Rattle.ppda.specs.Chances.{chance}
 use Rattle.ppda.specs.Equations.{Vector, through, f}
 use Rattle.ppda.specs.Margin.{margin, whole, kept}
 use Rattle.ppda.specs.Bounds.{Uppers, Lowers, LowerHolds, stepsOf}
-use Rattle.ppda.proofs.Sums.{sumTo-combined}
+use Rattle.walks.proofs.Sums.{sumTo-combined}
 use Rattle.ppda.proofs.Rows.{row-combined}
 use Rattle.ppda.proofs.Equations.{Under, f-grows, f-le-chance}
 use Rattle.ppda.proofs.Upper.{upper-holds}

@@ -11,7 +11,7 @@ use Rattle.ppda.specs.Equations.{Vector, f}
 use Rattle.ppda.specs.Live.{isLive, alive}
 use Rattle.ppda.specs.Margin.{share, shareAt, margin, whole, kept}
 use Rattle.ppda.specs.Bounds.{Uppers, Lowers, LowerAt}
-use Rattle.ppda.proofs.Sums.{leastTo-le-top, leastTo-le-term, leastTo-greatest}
+use Rattle.walks.proofs.Sums.{leastTo-le-top, leastTo-le-term, leastTo-greatest}
 
 -- The m of point 3 is never 0: what is taken from the lower vanishes as k grows.
 pub kept-below-whole : (a : ℕ) → kept a < whole a

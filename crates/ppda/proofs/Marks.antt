@@ -9,11 +9,11 @@ use mathlib.Core.List.{List}
 use mathlib.Core.Logic.{_⊎_, inl, inr, _↔_}
 use lib.Dec.{eqb}
 use borrow.Author.Tests.{lt-ltb, ltb-true, ltb-false}
-use Rattle.ppda.specs.Sums.{bit, sign, sum, sumTo, In}
+use Rattle.walks.specs.Sums.{bit, sign, sum, sumTo, In}
 use Rattle.ppda.specs.Rules.{Push, nothing, one, two, pushed, Rule, fits, overRow, Below, IsModel}
 use Rattle.ppda.specs.Equations.{Vector, through, f}
 use Rattle.ppda.specs.Live.{scale, rounds, mark, isLive, alive}
-use Rattle.ppda.proofs.Sums.{bit-le, left-of-product, positive-of-sign, right-of-product, sign-le-one, sign-positive, sum-positive, sumTo-le, sumTo-mono, sumTo-positive, sumTo-tight, term-le-sum, term-le-sumTo}
+use Rattle.walks.proofs.Sums.{bit-le, left-of-product, positive-of-sign, right-of-product, sign-le-one, sign-positive, sum-positive, sumTo-le, sumTo-mono, sumTo-positive, sumTo-tight, term-le-sum, term-le-sumTo}
 
 pub bit-true : (b : Bool) → 0 < bit b → b ≡ true
 bit-true true h = refl

@@ -4,7 +4,7 @@ use Prim.Native.Nat.{ℕ, zero, suc, _*_, _^_, _<_}
 use native.Mathlib.Nat.{mul-comm, mul-one, pow-succ'}
 use mathlib.Core.Path.{_≡_, sym, ap, _∙_}
 use mathlib.Core.List.{List, [], _∷_, _++_}
-use Rattle.ppda.specs.Sums.{In}
+use Rattle.walks.specs.Sums.{In}
 use Rattle.ppda.specs.Rules.{Rule, overRow, pushed, Below, IsModel}
 use Rattle.ppda.specs.Chances.{counted, mass}
 use Rattle.ppda.proofs.Rows.{row-cong, row-const}

@@ -8,12 +8,12 @@ use mathlib.Core.Path.{_≡_, sym, ap, _∙_, fun-ext}
 use mathlib.Core.List.{List, [], _∷_, _++_, append-assoc}
 use lib.Dec.{lit<}
 use lib.ListN.{length}
-use Rattle.ppda.specs.Sums.{In}
+use Rattle.walks.specs.Sums.{In}
 use Rattle.ppda.specs.Rules.{Rule, Push, nothing, one, two, overRow, pushed, Below, IsModel}
 use Rattle.ppda.specs.Chances.{counted, mean}
 use Rattle.ppda.specs.Equations.{Vector, RowVector, stepsThrough, meanSide}
 use Rattle.ppda.specs.Bounds.{Uppers, Means, MeanHolds}
-use Rattle.ppda.proofs.Sums.{sumTo-scaled}
+use Rattle.walks.proofs.Sums.{sumTo-scaled}
 use Rattle.ppda.proofs.Rows.{row-mono, row-cong, row-add, row-mul, row-combined, row-scaled}
 use Rattle.ppda.proofs.Steps.{counted-zero, counted-empty, counted-step, counted-add}
 use Rattle.ppda.proofs.Mass.{after-below, row-of-power, mass-whole-from}

@@ -8,10 +8,10 @@ use mathlib.Core.List.{List, [], _∷_}
 use mathlib.Core.Logic.{_↔_}
 use lib.Dec.{eqb, ltb}
 use borrow.Author.Tests.{eqb-true, eq-eqb, ltb-true}
-use Rattle.ppda.specs.Sums.{bit, sumTo, In}
+use Rattle.walks.specs.Sums.{bit, sumTo, In}
 use Rattle.ppda.specs.Rules.{pushed, Rule, fits, overRow, Below, IsRule}
-use Rattle.ppda.proofs.Sums.{sum-cong, sum-mono, sum-add, sum-mul, sum-swap, sumTo-mul}
-use Rattle.ppda.proofs.Lists.{every, in-every}
+use Rattle.walks.proofs.Sums.{sum-cong, sum-mono, sum-add, sum-mul, sum-swap, sumTo-mul}
+use Rattle.walks.proofs.Lists.{every, in-every}
 
 -- A test for the rules of a model, for models that are written out.
 abbrev belowTest : ℕ → List ℕ → Bool

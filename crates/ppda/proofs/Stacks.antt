@@ -5,10 +5,10 @@ use native.Mathlib.Nat.{le-refl, le-trans, le-of-eq, zero-add, zero-mul, mul-zer
 use native.Mathlib.Omega.{arith}
 use mathlib.Core.Path.{_≡_, sym, ap, _∙_, fun-ext}
 use mathlib.Core.List.{List, [], _∷_, _++_, append-assoc}
-use Rattle.ppda.specs.Sums.{sumTo, In}
+use Rattle.walks.specs.Sums.{sumTo, In}
 use Rattle.ppda.specs.Rules.{Rule, overRow, pushed, Below}
 use Rattle.ppda.specs.Chances.{chanceFrom}
-use Rattle.ppda.proofs.Sums.{sumTo-mono, sumTo-zero, sumTo-mul, sumTo-pick}
+use Rattle.walks.proofs.Sums.{sumTo-mono, sumTo-zero, sumTo-mul, sumTo-pick}
 use Rattle.ppda.proofs.Rows.{row-mono, row-mul, row-swap-mul}
 use Rattle.ppda.proofs.Steps.{chance-zero, chance-empty, chance-step}
 

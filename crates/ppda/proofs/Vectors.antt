@@ -5,7 +5,7 @@ use mathlib.Core.Path.{_≡_, refl, ap, ap₂}
 use Rattle.ppda.specs.Units.{weightUnit}
 use Rattle.ppda.specs.Rules.{Rule, Push, nothing, one, two, pushed, Below, IsModel}
 use Rattle.ppda.specs.Equations.{Vector, RowVector, Same, SameRows, through, f, stepsThrough, meanSide}
-use Rattle.ppda.proofs.Sums.{sumTo-cong}
+use Rattle.walks.proofs.Sums.{sumTo-cong}
 use Rattle.ppda.proofs.Rows.{row-cong}
 
 module _ (s g d : ℕ) (v u : Vector) (same : Same s g v u) where

@@ -6,7 +6,7 @@ use mathlib.Core.Path.{_≡_, refl}
 use mathlib.Core.Bool.{true}
 use mathlib.Core.List.{[], _∷_, flatMap}
 use lib.Dec.{lit<, lit≤}
-use Rattle.ppda.specs.Sums.{sum, sumTo, sign}
+use Rattle.walks.specs.Sums.{sum, sumTo, sign}
 use Rattle.ppda.specs.Rules.{rule, fits, overRow, IsModel}
 use Rattle.ppda.specs.Runs.{after, lists, weigh, overRuns, overRunsWithin}
 use Rattle.ppda.specs.Chances.{mean, counted}
@@ -15,7 +15,7 @@ use Rattle.ppda.specs.Live.{Live, mark, isLive, alive}
 use Rattle.ppda.specs.Bounds.{LowerAt, Means, Certificate}
 use Rattle.ppda.specs.W.{w, wUppers, wLowers, wMeans}
 use Rattle.ppda.proofs.Rows.{rules-of-test}
-use Rattle.ppda.proofs.Lists.{at-rows, at-entries}
+use Rattle.walks.proofs.Lists.{at-rows, at-entries}
 use Rattle.ppda.proofs.Marks.{is-live, is-dead}
 use Rattle.ppda.proofs.Live.{live-by-rounds}
 

@@ -5,7 +5,7 @@ use mathlib.Core.List.{List, [], _∷_, _++_}
 use mathlib.Core.Option.{Option, none, some}
 use lib.Dec.{eqb}
 use lib.ListN.{length}
-use Rattle.ppda.specs.Sums.{bit}
+use Rattle.walks.specs.Sums.{bit}
 use Rattle.ppda.specs.Units.{weightUnit}
 use Rattle.ppda.specs.Rules.{Rule, overRow, pushed}
 use Rattle.ppda.specs.Runs.{Config, at, overRuns, overRunsWithin}

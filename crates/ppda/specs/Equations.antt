@@ -4,9 +4,9 @@ use mathlib.Core.List.{List}
 use mathlib.Core.Path.{_≡_}
 use lib.Dec.{eqb}
 use lib.ListN.{getD}
-use Rattle.ppda.specs.Sums.{bit, sumTo}
+use Rattle.walks.specs.Sums.{bit, sumTo}
 use Rattle.ppda.specs.Units.{weightUnit}
-use Rattle.ppda.specs.Order.{rowAt, entryAt, AtRows, AtEntries}
+use Rattle.walks.specs.Order.{rowAt, entryAt, AtRows, AtEntries}
 use Rattle.ppda.specs.Rules.{Rule, Push, nothing, one, two, overRow}
 
 -- A number for each entry (p, z, q): uppers, lowers or chances.

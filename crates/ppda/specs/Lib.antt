@@ -1,8 +1,6 @@
--- What a reader must believe, in the order of document 01: sums, units, the order of files, rules, runs, the chances and means summed over runs,
+-- What a reader must believe, in the order of document 01: units, rules, runs, the chances and means summed over runs,
 -- the equations, live entries, the margin, and what a certificate claims and is promised. Nothing here knows bytes.
-pub mod Sums
 pub mod Units
-pub mod Order
 pub mod Rules
 pub mod Runs
 pub mod Chances

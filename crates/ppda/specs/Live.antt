@@ -5,9 +5,9 @@ use mathlib.Core.List.{List, [], _∷_}
 use mathlib.Core.Option.{some}
 use mathlib.Core.Path.{_≡_}
 use lib.Dec.{ltb}
-use Rattle.ppda.specs.Sums.{sign, In}
+use Rattle.walks.specs.Sums.{sign, In}
 use Rattle.ppda.specs.Units.{weightUnit}
-use Rattle.ppda.specs.Order.{entriesIn}
+use Rattle.walks.specs.Order.{entriesIn}
 use Rattle.ppda.specs.Rules.{Rule}
 use Rattle.ppda.specs.Runs.{at, after, lists}
 use Rattle.ppda.specs.Equations.{Vector, f}

@@ -2,7 +2,7 @@
 use Prim.Native.Nat.{ℕ, zero, suc, _-_, _*_, _/_, _^_}
 use mathlib.Core.Bool.{Bool, cond}
 use mathlib.Core.List.{List}
-use Rattle.ppda.specs.Sums.{leastTo}
+use Rattle.walks.specs.Sums.{leastTo}
 use Rattle.ppda.specs.Units.{chanceUnit, sumUnit}
 use Rattle.ppda.specs.Rules.{Rule}
 use Rattle.ppda.specs.Equations.{Vector, f}

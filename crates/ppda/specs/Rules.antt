@@ -4,7 +4,7 @@ use mathlib.Core.Bool.{Bool, _&&_}
 use mathlib.Core.List.{List, [], _∷_}
 use mathlib.Core.Path.{_≡_}
 use lib.Dec.{eqb}
-use Rattle.ppda.specs.Sums.{bit, sum, In}
+use Rattle.walks.specs.Sums.{bit, sum, In}
 use Rattle.ppda.specs.Units.{weightUnit}
 
 -- What a rule puts in the place of the symbol that it removes: nothing, y, or y over x.

@@ -4,7 +4,7 @@ use Prim.Native.Nat.{ℕ, zero, suc, _-_, _*_, _^_}
 use mathlib.Core.Bool.{cond}
 use mathlib.Core.List.{List, [], _∷_, _++_, map, flatMap}
 use mathlib.Core.Option.{Option, none, some}
-use Rattle.ppda.specs.Sums.{sum, sumTo}
+use Rattle.walks.specs.Sums.{sum, sumTo}
 use Rattle.ppda.specs.Units.{weightUnit}
 use Rattle.ppda.specs.Rules.{Rule, fits, pushed}
 

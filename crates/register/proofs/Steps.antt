@@ -12,9 +12,9 @@ use Rattle.outcome.specs.declared.Outcome.{Outcome}
 use Rattle.outcome.specs.declared.Outcome.the-variants.{Accepted, Refused}
 use Rattle.outcome.specs.Tests.{isRefused}
 use Rattle.outcome.proofs.Tests.{not-refused}
-use Rattle.ppda.specs.Sums.{allTo}
-use Rattle.ppda.specs.Order.{entriesIn}
-use Rattle.ppda.proofs.Sums.{all-exactly}
+use Rattle.walks.specs.Sums.{allTo}
+use Rattle.walks.specs.Order.{entriesIn}
+use Rattle.walks.proofs.Sums.{all-exactly}
 use Rattle.model.specs.declared.sizes.Sizes.{Sizes}
 use Rattle.model.specs.Sizes.{sizesOf}
 use Rattle.model.specs.Verdict.{modelVerdict}

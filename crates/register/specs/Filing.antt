@@ -12,8 +12,8 @@ use Rattle.model.specs.Records.{statesOf, symbolsOf}
 use Rattle.model.specs.Verdict.{modelVerdict}
 use Rattle.delivery.specs.declared.shape.Shape.{Shape}
 use Rattle.delivery.specs.Shapes.{shapeOf}
-use Rattle.ppda.specs.Sums.{allTo}
-use Rattle.ppda.specs.Order.{entriesIn}
+use Rattle.walks.specs.Sums.{allTo}
+use Rattle.walks.specs.Order.{entriesIn}
 use Rattle.certificate.specs.Verdict.{verdict}
 use Rattle.held.specs.declared.HeldDelivery.the-variants as Held
 use Rattle.held.specs.declared.Numbers.{Numbers}

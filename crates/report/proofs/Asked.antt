@@ -6,10 +6,11 @@ use mathlib.Core.List.{List, []}
 use mathlib.Core.Path.{_≡_, ap, _∙_}
 use lib.ListN.{length, getD}
 use Rattle.text.specs.Walks.{Put}
-use Rattle.text.proofs.Puts.{put-then, join-cong}
-use Rattle.ppda.specs.Order.{entryAt, entriesIn, rowsIn, byEntry}
+use Rattle.text.proofs.Puts.{put-then}
+use Rattle.walks.proofs.Lists.{join-cong}
+use Rattle.walks.specs.Order.{entryAt, entriesIn, rowsIn, byEntry}
 use Rattle.ppda.specs.Equations.{Vector, entries, Same}
-use Rattle.ppda.proofs.Places.{row-of}
+use Rattle.walks.proofs.Places.{row-of}
 use Rattle.model.specs.Records.{recordsOf, statesOf, symbolsOf}
 use Rattle.model.specs.declared.sizes.Sizes.{Sizes}
 use Rattle.model.specs.Sizes.{sizesOf, Fits}

@@ -2,8 +2,8 @@
 use Prim.Native.Nat.{ℕ, _+_, _*_, _≤_, _<_}
 use native.Mathlib.Omega.{arith}
 use mathlib.Core.Path.{_≡_, refl, sym, ap, ap₂, _∙_}
-use Rattle.ppda.specs.Sums.{sumTo}
-use Rattle.ppda.proofs.Sums.{sumTo-step}
+use Rattle.walks.specs.Sums.{sumTo}
+use Rattle.walks.proofs.Sums.{sumTo-step}
 
 -- After i of n turns.
 pub record Counted (h : ℕ → ℕ) (k n count i : ℕ) : Type 0 where

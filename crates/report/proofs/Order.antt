@@ -5,13 +5,13 @@ use native.Mathlib.Nat.{add-zero, add-suc, zero-mul, suc-mul}
 use native.Mathlib.Omega.{arith}
 use mathlib.Core.List.{List}
 use mathlib.Core.Path.{_≡_, refl, ap, ap₂, _∙_}
-use Rattle.text.specs.Texts.{joinTo}
-use Rattle.text.proofs.Puts.{join-cong, join-flat}
-use Rattle.ppda.specs.Sums.{sumTo}
-use Rattle.ppda.specs.Order.{byRow}
+use Rattle.walks.specs.Lists.{joinTo}
+use Rattle.walks.proofs.Lists.{join-cong, join-flat}
+use Rattle.walks.specs.Sums.{sumTo}
+use Rattle.walks.specs.Order.{byRow}
 use Rattle.ppda.specs.Equations.{Vector}
-use Rattle.ppda.proofs.Places.{row-at}
-use Rattle.ppda.proofs.Sums.{sumTo-cong}
+use Rattle.walks.proofs.Places.{row-at}
+use Rattle.walks.proofs.Sums.{sumTo-cong}
 use Rattle.history.specs.Calls.{Call, Reply}
 use Rattle.report.specs.Printed.{liveAt, liveEntries, chanceAt, chanceLines, stepsAt, stepsLines}
 

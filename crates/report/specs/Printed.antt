@@ -3,9 +3,9 @@
 use Prim.Native.Nat.{ℕ}
 use mathlib.Core.Bool.{cond}
 use mathlib.Core.List.{List, [], _∷_, _++_}
-use Rattle.text.specs.Texts.{joinTo}
-use Rattle.ppda.specs.Sums.{bit, sumTo}
-use Rattle.ppda.specs.Order.{rowsIn, entriesIn, byRow, byEntry}
+use Rattle.walks.specs.Lists.{joinTo}
+use Rattle.walks.specs.Sums.{bit, sumTo}
+use Rattle.walks.specs.Order.{rowsIn, entriesIn, byRow, byEntry}
 use Rattle.ppda.specs.Equations.{Vector}
 use Rattle.model.specs.Records.{recordsOf, statesOf, symbolsOf}
 use Rattle.history.specs.Calls.{Call, fileModel, fileDelivery, upper, lower, meanSteps, margin, live, Reply, cleared, accepted, known, new, value, refused}

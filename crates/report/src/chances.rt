@@ -56,7 +56,13 @@ pub(crate) fn put_chances(
         at = put_chance(
             out,
             at,
-            asked(register, row / n.symbols, row % n.symbols, e % n.states, gaps[e]),
+            asked(
+                register,
+                row / n.symbols,
+                row % n.symbols,
+                e % n.states,
+                gaps[e],
+            ),
         );
         e += 1;
     }

@@ -8,11 +8,11 @@ use mathlib.Core.Path.{_≡_, refl, sym, ap, ap₂, _∙_}
 use lib.Dec.{eqb}
 use lib.ListN.{getD}
 use borrow.Author.Tests.{eq-eqb, ne-eqb}
-use Rattle.ppda.proofs.Places.{row-of, row-below}
-use Rattle.ppda.specs.Sums.{bit, sumTo}
+use Rattle.walks.proofs.Places.{row-of, row-below}
+use Rattle.walks.specs.Sums.{bit, sumTo}
 use Rattle.ppda.specs.Units.{weightUnit}
 use Rattle.ppda.specs.Rules.{Push, nothing, one, two, fits, overRow}
-use Rattle.ppda.proofs.Sums.{sumTo-step, sumTo-le, sumTo-mono}
+use Rattle.walks.proofs.Sums.{sumTo-step, sumTo-le, sumTo-mono}
 use Rattle.ppda.proofs.Rows.{row-const}
 use Rattle.model.specs.Format.{mostStates}
 use Rattle.model.specs.Records.{recordsOf, target, pushes, top, under, weight}

@@ -2,7 +2,7 @@
 use Prim.Native.Nat.{ℕ, _≤_, _<_}
 use mathlib.Core.List.{List}
 use lib.ListN.{getD}
-use Rattle.ppda.specs.Order.{rowsIn}
+use Rattle.walks.specs.Order.{rowsIn}
 use Rattle.model.specs.declared.sizes.Sizes.{Sizes}
 use Rattle.model.specs.Records.{recordsOf}
 use Rattle.model.specs.Rules.{rowOf}

@@ -8,7 +8,8 @@ use mathlib.Core.Path.{_≡_, refl, sym, ap, ap₂, subst, _∙_}
 use lib.ListN.{length, take, set, getD, length-append, length-set}
 use lib.Seq.{take-all, paste, length-paste, take-paste, take-suc, take-suc-set}
 use Rattle.text.specs.Decimal.{decimal}
-use Rattle.text.specs.Texts.{fields, spaced, joinTo}
+use Rattle.text.specs.Texts.{fields, spaced}
+use Rattle.walks.specs.Lists.{joinTo}
 use Rattle.text.specs.Walks.{Put}
 
 -- Nothing.
@@ -106,24 +107,3 @@ spaced-all {l} {i = i} so done = put-as (ap spaced (take-all i l done)) (so .som
 pub put-fields : {a b c : List ℕ} {at m e : ℕ} (w l : List ℕ) (xs : List (List ℕ)) → Put a b at m (w ++ spaced l)
     → Put b c m e (fields xs) → Put a c at e (w ++ fields (map decimal l ++ xs))
 put-fields w l xs p q = put-as (rw (append-assoc, spaced-fields)) (put-then p q)
-
--- ---- joins
-
--- The same texts, the same join.
-pub join-cong : (h k : ℕ → List ℕ) (n : ℕ) → ((i : ℕ) → i < n → h i ≡ k i) → joinTo h n ≡ joinTo k n
-unfolding joinTo
-join-cong h k zero same = refl
-join-cong h k (suc n) same = ap₂ _++_ (join-cong h k n (λ i l. same i (omega arith))) (same n (omega arith))
-
--- The first a texts, then b more.
-join-append : (h : ℕ → List ℕ) (a b : ℕ) → joinTo h (a + b) ≡ joinTo h a ++ joinTo (λ j. h (a + j)) b
-unfolding joinTo
-join-append h a zero = ap (joinTo h) (add-zero a) ∙ sym (append-nil (joinTo h a))
-join-append h a (suc b) = ap (joinTo h) (add-suc a b) ∙ rw (join-append h a b, append-assoc)
-
--- n times m texts are n joins of m.
-pub join-flat : (h : ℕ → List ℕ) (n m : ℕ) → joinTo h (n * m) ≡ joinTo (λ i. joinTo (λ j. h (i * m + j)) m) n
-unfolding joinTo
-join-flat h zero m = ap (joinTo h) (zero-mul m)
-join-flat h (suc n) m =
-    ap (joinTo h) (suc-mul n m) ∙ join-append h (n * m) m ∙ ap (λ t. t ++ joinTo (λ j. h (n * m + j)) m) (join-flat h n m)

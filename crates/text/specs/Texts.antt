@@ -12,8 +12,3 @@ fields (x ∷ xs) = 32 ∷ (x ++ fields xs)
 abbrev pub spaced : List ℕ → List ℕ
 spaced [] = []
 spaced (n ∷ ns) = 32 ∷ (decimal n ++ spaced ns)
-
--- The texts h 0, h 1, …, h (n − 1), one after the other.
-unfoldable pub joinTo : (ℕ → List ℕ) → ℕ → List ℕ
-joinTo h zero = []
-joinTo h (suc n) = joinTo h n ++ h n

@@ -5,8 +5,8 @@ use mathlib.Core.Path.{_≡_, refl, ap, _∙_}
 use lib.ListN.{length, getD, length-set}
 use denote.Ref.{now}
 use borrow.Author.Needs.{needs}
-use Rattle.ppda.proofs.Places.{row-of}
-use Rattle.ppda.specs.Order.{rowsIn, entriesIn}
+use Rattle.walks.proofs.Places.{row-of}
+use Rattle.walks.specs.Order.{rowsIn, entriesIn}
 use Rattle.model.specs.Format.{mostEntries}
 use Rattle.model.proofs.Accepted.{sized-fits}
 use Rattle.rows.proofs.Ranges.{set-more}

@@ -9,7 +9,7 @@ use Rattle.delivery.specs.declared.shape.Shape.the-variants.{UL, UR}
 use Rattle.delivery.specs.declared.shape.Block.the-variants.{Lowers}
 use Rattle.delivery.specs.Records.{kindAt, kindOf}
 use Rattle.delivery.specs.Shapes.{lowersOrMeans}
-use Rattle.ppda.specs.Order.{entriesIn}
+use Rattle.walks.specs.Order.{entriesIn}
 use Rattle.delivery.proofs.shape.lowers_or_means.Statement.{statement}
 use Rattle.delivery.proofs.shape.lowers_or_means.Tie as tie
 

@@ -4,8 +4,8 @@ use native.Mathlib.Nat.{mod-lt}
 use native.Mathlib.Omega.{arith}
 use mathlib.Core.Path.{refl}
 use borrow.Author.Needs.{needs}
-use Rattle.ppda.specs.Order.{rowsIn}
-use Rattle.ppda.proofs.Places.{row-of}
+use Rattle.walks.specs.Order.{rowsIn}
+use Rattle.walks.proofs.Places.{row-of}
 use Rattle.model.specs.Format.{mostEntries}
 use Rattle.held.proofs.Listed.{EntriesTo, entries-none, entries-more, entries-all}
 use Rattle.held.proofs.lists.by_entries.Statement.{statement}

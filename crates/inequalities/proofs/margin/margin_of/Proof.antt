@@ -3,7 +3,7 @@ use Prim.Native.Nat.{_*_, _-_, _≤_}
 use native.Mathlib.Omega.{arith}
 use mathlib.Core.Path.{_≡_}
 use borrow.Author.Needs.{needs}
-use Rattle.ppda.specs.Order.{rowsIn}
+use Rattle.walks.specs.Order.{rowsIn}
 use Rattle.model.specs.Format.{mostRows}
 use Rattle.model.proofs.Accepted.{sized-fits}
 use Rattle.inequalities.proofs.Shares.{leastOfRows, rows-none, rows-more, rows-all}

@@ -9,7 +9,7 @@ use Rattle.outcome.proofs.Tests.{each-none, each-more, each-refused, each-end}
 use Rattle.outcome.specs.Tests.{first, each}
 use Rattle.outcome.specs.declared.Outcome.the-variants.{Accepted}
 use Rattle.delivery.proofs.Walks.{entries-by-row}
-use Rattle.ppda.specs.Order.{rowsIn}
+use Rattle.walks.specs.Order.{rowsIn}
 use Rattle.model.specs.Format.{mostRows}
 use Rattle.model.proofs.Accepted.{sized-fits}
 use Rattle.inequalities.specs.Walks.{sideRow, sideBlock}

@@ -4,8 +4,10 @@ use native.Mathlib.Omega.{arith}
 use mathlib.Core.Path.{_≡_, sym, ap₂, _∙_}
 use denote.Ref.{now}
 use borrow.Author.Needs.{needs}
-use Rattle.model.specs.Records.{recordsOf, greatestTo, stateNamed, symbolNamed}
-use Rattle.model.proofs.Records.{greatest-none, greatest-step, states-named, symbols-named}
+use Rattle.model.specs.Records.{recordsOf, stateNamed, symbolNamed}
+use Rattle.walks.specs.Sums.{greatestTo}
+use Rattle.model.proofs.Records.{states-named, symbols-named}
+use Rattle.walks.proofs.Sums.{greatest-none, greatest-step}
 use Rattle.model.proofs.sizes.sizes_of.Statement.{statement}
 use Rattle.model.proofs.sizes.sizes_of.Tie as tie
 

@@ -5,8 +5,8 @@ use mathlib.Core.Path.{_≡_, ap}
 use denote.Ref.{now}
 use borrow.Author.Needs.{needs}
 use Rattle.text.proofs.Puts.{put-as, Joined, joined-none, joined-more, joined-all}
-use Rattle.text.specs.Texts.{joinTo}
-use Rattle.ppda.specs.Order.{entriesIn, byEntry}
+use Rattle.walks.specs.Lists.{joinTo}
+use Rattle.walks.specs.Order.{entriesIn, byEntry}
 use Rattle.ppda.specs.Equations as equations
 use Rattle.model.specs.Format.{mostEntries}
 use Rattle.history.specs.Run.{replyOf}

@@ -4,8 +4,8 @@ use native.Mathlib.Omega.{arith}
 use mathlib.Core.Logic.{⊎-elim}
 use mathlib.Core.Path.{_≡_, sym, ap, _∙_}
 use borrow.Author.Needs.{needs}
-use Rattle.ppda.specs.Sums.{bit, sumTo}
-use Rattle.ppda.specs.Order.{entriesIn, byEntry}
+use Rattle.walks.specs.Sums.{bit, sumTo}
+use Rattle.walks.specs.Order.{entriesIn, byEntry}
 use Rattle.model.specs.Format.{mostEntries}
 use Rattle.history.specs.Run.{replyOf}
 use Rattle.report.specs.Printed.{liveAt, liveEntries}

@@ -4,8 +4,8 @@ use native.Mathlib.Omega.{arith}
 use mathlib.Core.Path.{_≡_, ap, _∙_}
 use borrow.Author.Needs.{needs}
 use Rattle.text.proofs.Puts.{put-as, Joined, joined-none, joined-more, joined-all}
-use Rattle.text.specs.Texts.{joinTo}
-use Rattle.ppda.specs.Order.{rowsIn, byRow}
+use Rattle.walks.specs.Lists.{joinTo}
+use Rattle.walks.specs.Order.{rowsIn, byRow}
 use Rattle.model.specs.Format.{mostRows}
 use Rattle.history.specs.Run.{replyOf}
 use Rattle.report.specs.Printed.{stepsAt, stepsLines}

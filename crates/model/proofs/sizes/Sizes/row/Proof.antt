@@ -2,7 +2,7 @@
 use Prim.Native.Nat.{_+_, _*_, _<_}
 use native.Mathlib.Omega.{arith}
 use mathlib.Core.Path.{refl}
-use Rattle.ppda.proofs.Places.{row-below}
+use Rattle.walks.proofs.Places.{row-below}
 use Rattle.model.proofs.Records.{narrow-rows}
 use Rattle.model.proofs.sizes.Sizes.row.Statement.{statement}
 use Rattle.model.proofs.sizes.Sizes.row.Tie as tie

@@ -1,6 +1,6 @@
--- The laws of sums, of least values and of tests over numbers.
-use Prim.Native.Nat.{ℕ, zero, suc, _+_, _*_, _≤_, _<_, min}
-use native.Mathlib.Nat.{le-min, le-refl, add-le-add, zero-add, mul-zero, zero-mul, eq-zero-or-pos, not-suc-le-zero, eq-or-lt-of-le, le-of-suc-le-suc}
+-- The laws of sums, of least and greatest values and of tests over numbers.
+use Prim.Native.Nat.{ℕ, zero, suc, _+_, _*_, _≤_, _<_, min, max}
+use native.Mathlib.Nat.{le-min, max-le, le-refl, add-le-add, zero-add, mul-zero, zero-mul, eq-zero-or-pos, not-suc-le-zero, eq-or-lt-of-le, le-of-suc-le-suc}
 use native.Mathlib.Numerals.{add-one}
 use native.Mathlib.Omega.{arith}
 use mathlib.Core.Bool.{Bool, true, and-eq-true-iff}
@@ -10,7 +10,15 @@ use mathlib.Core.Logic.{_⊎_, inl, inr, _↔_}
 use lib.Dec.{eqb}
 use borrow.Author.Tests.{eq-eqb, ne-eqb}
 use borrow.Author.Count.{below-more}
-use Rattle.ppda.specs.Sums.{bit, sign, sum, sumTo, leastTo, allTo, In}
+use Rattle.walks.specs.Sums.{bit, sign, sum, sumTo, leastTo, greatestTo, allTo, In}
+
+-- Below suc n is n, or below n.
+pub last-or-below : {P : Type 0} (i n : ℕ) → i < suc n → (i ≡ n → P) → (i < n → P) → P
+last-or-below {P} i n l last below = go (eq-or-lt-of-le (le-of-suc-le-suc l))
+  where
+    go : (i ≡ n) ⊎ (i < n) → P
+    go (inl e) = last e
+    go (inr b) = below b
 
 -- ---- over a list
 
@@ -241,3 +249,28 @@ all-exactly h (suc n) = (
       below-more (λ e. h e ≡ true) n (all-exactly h n .0 all) last e (omega arith),
   λ all. and-eq-true-iff (allTo h n) (h n) .1 (all-exactly h n .1 (λ e lt. all e (omega arith)), all n (omega arith)),
 )
+
+-- ---- greatest values
+
+pub greatest-le : (h : ℕ → ℕ) (n i : ℕ) → i < n → h i ≤ greatestTo h n
+unfolding greatestTo
+greatest-le h zero i b = absurd (not-suc-le-zero b)
+greatest-le h (suc n) i b = go (eq-or-lt-of-le (le-of-suc-le-suc b)) (λ c. greatest-le h n i c)
+  where
+    go : (i ≡ n) ⊎ (i < n) → (i < n → h i ≤ greatestTo h n) → h i ≤ max (greatestTo h n) (h n)
+    go (inl e) rest = rw e (omega arith)
+    go (inr c) rest = let t : h i ≤ greatestTo h n = rest c in omega arith
+
+pub greatest-most : (h : ℕ → ℕ) (n a : ℕ) → ((i : ℕ) → i < n → h i ≤ a) → greatestTo h n ≤ a
+unfolding greatestTo
+greatest-most h zero a e = omega arith
+greatest-most h (suc n) a e = max-le (greatest-most h n a (λ i b. e i (omega arith))) (e n (le-refl (suc n)))
+
+-- Where a loop begins, and one more turn of it.
+pub greatest-none : (h : ℕ → ℕ) → greatestTo h 0 ≡ 0
+unfolding greatestTo
+greatest-none h = refl
+
+pub greatest-step : (h : ℕ → ℕ) (i : ℕ) → greatestTo h (i + 1) ≡ max (greatestTo h i) (h i)
+unfolding greatestTo
+greatest-step h i = rw add-one

@@ -50,13 +50,3 @@ row-below s g p z hp hz = omega (arith, row-lower g p z s 0 hz hp)
 
 pub entry-below : (s g p z q : ℕ) → p < s → z < g → q < s → (p * g + z) * s + q < s * g * s
 entry-below s g p z q hp hz hq = row-below (s * g) s (p * g + z) q (row-below s g p z hp hz) hq
-
--- With at most 8 states and 16 symbols there are at most 128 rows and 1,024 entries.
-pub row-most : (p g z : ℕ) → p < 8 → g < 17 → z < 16 → p * g + z < 128
-row-most p g z hp hg hz = let p7 : p ≤ 7 = omega arith in let g16 : g ≤ 16 = omega arith in omega (arith, mul-le-mul p7 g16)
-
-pub rows-most : (s g : ℕ) → s < 9 → g < 17 → s * g ≤ 128
-rows-most s g hs hg = mul-le-mul {n₁ = s} {m₁ = g} {n₂ = 8} {m₂ = 16} (omega arith) (omega arith)
-
-pub entries-most : (s g : ℕ) → s < 9 → g < 17 → s * g * s ≤ 1024
-entries-most s g hs hg = mul-le-mul {n₁ = s * g} {m₁ = s} {n₂ = 128} {m₂ = 8} (rows-most s g hs hg) (omega arith)

@@ -1,5 +1,5 @@
--- Walks over the numbers 0, 1, …, n − 1 and over lists: sums, least values, tests; and truth values as numbers.
-use Prim.Native.Nat.{ℕ, zero, suc, _+_, min}
+-- Walks over the numbers 0, 1, …, n − 1 and over lists: sums, least and greatest values, tests; and truth values as numbers.
+use Prim.Native.Nat.{ℕ, zero, suc, _+_, min, max}
 use mathlib.Core.Bool.{Bool, true, false, _&&_}
 use mathlib.Core.List.{List, [], _∷_}
 use mathlib.Core.Logic.{_⊎_}
@@ -29,6 +29,11 @@ sumTo h (suc n) = sumTo h n + h n
 unfoldable pub leastTo : ℕ → (ℕ → ℕ) → ℕ → ℕ
 leastTo top h zero = top
 leastTo top h (suc n) = min (leastTo top h n) (h n)
+
+-- The greatest of h 0, h 1, …, h (n − 1), and 0 of none.
+unfoldable pub greatestTo : (ℕ → ℕ) → ℕ → ℕ
+greatestTo h zero = 0
+greatestTo h (suc n) = max (greatestTo h n) (h n)
 
 -- h holds of 0, 1, …, n − 1.
 unfoldable pub allTo : (ℕ → Bool) → ℕ → Bool

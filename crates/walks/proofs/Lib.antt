@@ -1,0 +1,4 @@
+-- The laws of walks, and of the places of rows and entries in the order of files.
+pub mod Sums
+pub mod Lists
+pub mod Places

@@ -1,0 +1,181 @@
+-- What holds of every number below a bound, or at every element of a list; lists of zeros; the laws of membership, and of lists made by walks.
+use Prim.Native.Nat.{ℕ, zero, suc, _+_, _*_, _<_}
+use native.Mathlib.Nat.{not-suc-le-zero, eq-or-lt-of-le, le-of-suc-le-suc, le-refl, add-zero, add-suc, zero-mul, suc-mul}
+use native.Mathlib.Omega.{arith}
+use mathlib.Core.Path.{_≡_, refl, sym, ap, ap₂, subst, _∙_}
+use mathlib.Core.Bool.{Bool, true, false, _&&_, and-eq-true-iff}
+use mathlib.Core.List.{List, [], _∷_, _++_, map, flatMap, append-assoc, append-nil}
+use mathlib.Core.Logic.{_⊎_, inl, inr}
+use lib.Dec.{eqb}
+use lib.ListN.{length, getD, replicate, length-append, List·getD-append}
+use lib.Seq.{ext-getD, getD-at, getD-append-add}
+use borrow.Author.Tests.{eqb-true, eqb-false}
+use Rattle.walks.specs.Sums.{sum, sumTo, In}
+use Rattle.walks.specs.Lists.{listTo, joinTo}
+use Rattle.walks.proofs.Sums.{sum-append, last-or-below}
+use Rattle.walks.proofs.Places.{row-below}
+
+-- P holds of every number below n.
+abbrev pub AllTo : (ℕ → Type 0) → ℕ → Type 0
+AllTo P zero = Unit {0}
+AllTo P (suc n) = AllTo P n × P n
+
+pub all-to : (P : ℕ → Type 0) (n : ℕ) → AllTo P n → (i : ℕ) → i < n → P i
+all-to P zero a i b = absurd (not-suc-le-zero b)
+all-to P (suc n) a i b = elim (eq-or-lt-of-le (le-of-suc-le-suc b)) [ inl e ↦ subst P (sym e) (a .1) | inr c ↦ all-to P n (a .0) i c ]
+
+-- And of all rows and entries of s states and g symbols.
+pub at-rows : (s g : ℕ) (P : ℕ → ℕ → Type 0) → AllTo (λ p. AllTo (P p) g) s → (p z : ℕ) → p < s → z < g → P p z
+at-rows s g P a p z hp = all-to (P p) g (all-to (λ p. AllTo (P p) g) s a p hp) z
+
+pub at-entries : (s g : ℕ) (P : ℕ → ℕ → ℕ → Type 0) → AllTo (λ p. AllTo (λ z. AllTo (P p z) s) g) s
+    → (p z q : ℕ) → p < s → z < g → q < s → P p z q
+at-entries s g P a p z q hp hz = all-to (P p z) s (at-rows s g (λ p z. AllTo (P p z) s) a p z hp hz) q
+
+-- A list of zeros has 0 everywhere, and past its end too.
+pub getD-zeros : (n e : ℕ) → getD {A = ℕ} (replicate n 0) e 0 ≡ 0
+getD-zeros zero e = refl
+getD-zeros (suc n) zero = refl
+getD-zeros (suc n) (suc e) = getD-zeros n e
+
+-- The numbers of a vector, or of rows, in file order.
+unfoldable pub inOrder : ℕ → ℕ → (ℕ → ℕ → ℕ → ℕ) → List ℕ
+inOrder s g v = joinTo (λ p. joinTo (λ z. listTo (v p z) s) g) s
+
+unfoldable pub rowsInOrder : ℕ → ℕ → (ℕ → ℕ → ℕ) → List ℕ
+rowsInOrder s g r = joinTo (λ p. listTo (r p) g) s
+
+module _ {A : Type 0} where
+  -- The test passes at every element.
+  abbrev pub every : (A → Bool) → List A → Bool
+  every test [] = true
+  every test (x ∷ l) = test x && every test l
+
+  pub in-every : (test : A → Bool) (l : List A) → every test l ≡ true → (x : A) → In x l → test x ≡ true
+  in-every test (y ∷ l) e x (inl i) = rw i (and-eq-true-iff (test y) (every test l) .0 e .0)
+  in-every test (y ∷ l) e x (inr i) = in-every test l (and-eq-true-iff (test y) (every test l) .0 e .1) x i
+
+  pub in-append-left : (x : A) (k l : List A) → In x k → In x (k ++ l)
+  in-append-left x (y ∷ k) l (inl e) = inl e
+  in-append-left x (y ∷ k) l (inr i) = inr (in-append-left x k l i)
+
+  pub in-append-right : (x : A) (k l : List A) → In x l → In x (k ++ l)
+  in-append-right x [] l i = i
+  in-append-right x (y ∷ k) l i = inr (in-append-right x k l i)
+
+  pub in-append-cases : (x : A) (k l : List A) → In x (k ++ l) → In x k ⊎ In x l
+  in-append-cases x [] l i = inr i
+  in-append-cases x (y ∷ k) l (inl e) = inl (inl e)
+  in-append-cases x (y ∷ k) l (inr i) = elim (in-append-cases x k l i) [ inl a ↦ inl (inr a) | inr b ↦ inr b ]
+
+module _ {A B : Type 0} where
+  pub in-map : (k : A → B) (x : A) (l : List A) → In x l → In (k x) (map k l)
+  in-map k x (y ∷ l) (inl e) = inl (ap k e)
+  in-map k x (y ∷ l) (inr i) = inr (in-map k x l i)
+
+  pub of-in-map : (k : A → B) (y : B) (l : List A) → In y (map k l) → (x : A) × In x l × (y ≡ k x)
+  of-in-map k y (x ∷ l) (inl e) = (x, inl refl, e)
+  of-in-map k y (x ∷ l) (inr i) = let t = of-in-map k y l i in (t .0, inr (t .1), t .2)
+
+  pub in-flatMap : (k : A → List B) (x : A) (y : B) (l : List A) → In x l → In y (k x) → In y (flatMap k l)
+  unfolding flatMap
+  in-flatMap k x y (w ∷ l) (inl e) j = in-append-left y (k w) (flatMap k l) (rw e at j)
+  in-flatMap k x y (w ∷ l) (inr i) j = in-append-right y (k w) (flatMap k l) (in-flatMap k x y l i j)
+
+  pub of-in-flatMap : (k : A → List B) (y : B) (l : List A) → In y (flatMap k l) → (x : A) × In x l × In y (k x)
+  unfolding flatMap
+  of-in-flatMap k y (x ∷ l) i = go (in-append-cases y (k x) (flatMap k l) i) (of-in-flatMap k y l)
+    where
+      go : In y (k x) ⊎ In y (flatMap k l) → (In y (flatMap k l) → (w : A) × In w l × In y (k w)) → (w : A) × In w (x ∷ l) × In y (k w)
+      go (inl a) rest = (x, inl refl, a)
+      go (inr b) rest = let t = rest b in (t .0, inr (t .1), t .2)
+
+-- ---- h 0, h 1, …, h (n − 1)
+
+pub listTo-sum : {A : Type 0} (k : A → ℕ) (h : ℕ → A) (n : ℕ) → sum k (listTo h n) ≡ sumTo (λ i. k (h i)) n
+unfolding sum sumTo listTo
+listTo-sum k h zero = refl
+listTo-sum k h (suc n) = sum-append k (listTo h n) (h n ∷ []) ∙ rw (listTo-sum k h n) (omega arith)
+
+pub in-listTo : {A : Type 0} (h : ℕ → A) (n : ℕ) (x : A) → In x (listTo h n) → (i : ℕ) × (i < n) × (x ≡ h i)
+unfolding listTo
+in-listTo h (suc n) x e = go (in-append-cases x (listTo h n) (h n ∷ []) e) (in-listTo h n x)
+  where
+    go : In x (listTo h n) ⊎ In x (h n ∷ []) → (In x (listTo h n) → (i : ℕ) × (i < n) × (x ≡ h i)) → (i : ℕ) × (i < suc n) × (x ≡ h i)
+    go (inl a) rest = let t = rest a in (t .0, omega (arith, t .1), t .2)
+    go (inr (inl q)) rest = (n, le-refl (suc n), q)
+
+pub length-listTo : {A : Type 0} (h : ℕ → A) (n : ℕ) → length (listTo h n) ≡ n
+unfolding listTo
+length-listTo h zero = refl
+length-listTo h (suc n) = length-append (listTo h n) _ ∙ rw (length-listTo h n) (omega arith)
+
+pub getD-listTo : (h : ℕ → ℕ) (n e : ℕ) → e < n → getD (listTo h n) e 0 ≡ h e
+unfolding listTo
+getD-listTo h zero e lt = absurd (omega arith)
+getD-listTo h (suc n) e lt = go (eqb e n) refl (getD-listTo h n e)
+  where
+    go : (t : Bool) → eqb e n ≡ t → (e < n → getD (listTo h n) e 0 ≡ h e) → getD (listTo h (suc n)) e 0 ≡ h e
+    go true q before = let r : e ≡ n = eqb-true e n q in rw r (getD-at (listTo h n) (h n) [] 0 n (length-listTo h n))
+    go false q before =
+        let r : e ≡ n → ⊥ = eqb-false e n q in
+        let under : e < n = omega arith in
+        List·getD-append (listTo h n) _ 0 e (rw (length-listTo h n) under) ∙ before under
+
+-- A list is told by its length and its numbers.
+pub listTo-ext : {h : ℕ → ℕ} {l : List ℕ} (n : ℕ) → length l ≡ n → ((e : ℕ) → e < n → getD l e 0 ≡ h e) → l ≡ listTo h n
+listTo-ext {h} {l} n size value =
+    ext-getD 0 l (listTo h n) (size ∙ sym (length-listTo h n))
+    (λ e lt. let under : e < n = omega arith in value e under ∙ sym (getD-listTo h n e under))
+
+pub listTo-cong : {A : Type 0} (h k : ℕ → A) (n : ℕ) → ((i : ℕ) → h i ≡ k i) → listTo h n ≡ listTo k n
+unfolding listTo
+listTo-cong h k zero e = refl
+listTo-cong h k (suc n) e = ap₂ (λ l x. l ++ (x ∷ [])) (listTo-cong h k n e) (e n)
+
+-- The first of the list, and the others.
+pub listTo-first : {A : Type 0} (h : ℕ → A) (n : ℕ) → listTo h (suc n) ≡ h 0 ∷ listTo (λ i. h (suc i)) n
+unfolding listTo
+listTo-first h zero = refl
+listTo-first h (suc n) = ap (λ l. l ++ (h (suc n) ∷ [])) (listTo-first h n)
+
+-- ---- lists one after the other
+
+-- The same lists, the same join.
+pub join-cong : {A : Type 0} (h k : ℕ → List A) (n : ℕ) → ((i : ℕ) → i < n → h i ≡ k i) → joinTo h n ≡ joinTo k n
+unfolding joinTo
+join-cong h k zero same = refl
+join-cong h k (suc n) same = ap₂ _++_ (join-cong h k n (λ i l. same i (omega arith))) (same n (omega arith))
+
+-- The first a lists, then b more.
+join-append : {A : Type 0} (h : ℕ → List A) (a b : ℕ) → joinTo h (a + b) ≡ joinTo h a ++ joinTo (λ j. h (a + j)) b
+unfolding joinTo
+join-append h a zero = ap (joinTo h) (add-zero a) ∙ sym (append-nil (joinTo h a))
+join-append h a (suc b) = ap (joinTo h) (add-suc a b) ∙ rw (join-append h a b, append-assoc)
+
+-- n times m lists are n joins of m.
+pub join-flat : {A : Type 0} (h : ℕ → List A) (n m : ℕ) → joinTo h (n * m) ≡ joinTo (λ i. joinTo (λ j. h (i * m + j)) m) n
+unfolding joinTo
+join-flat h zero m = ap (joinTo h) (zero-mul m)
+join-flat h (suc n) m =
+    ap (joinTo h) (suc-mul n m) ∙ join-append h (n * m) m ∙ ap (λ t. t ++ joinTo (λ j. h (n * m + j)) m) (join-flat h n m)
+
+-- Lists of one length w.
+module _ (w : ℕ) (h : ℕ → List ℕ) where
+  pub length-joined : (n : ℕ) → ((i : ℕ) → i < n → length (h i) ≡ w) → length (joinTo h n) ≡ n * w
+  unfolding joinTo
+  length-joined zero size = sym (zero-mul w)
+  length-joined (suc n) size =
+      length-append (joinTo h n) (h n) ∙ omega (arith, length-joined n (λ i l. size i (omega arith)), size n (omega arith))
+
+  -- Number k of list i.
+  pub getD-joined : (n : ℕ) → ((i : ℕ) → i < n → length (h i) ≡ w) → (i k : ℕ) → i < n → k < w
+      → getD (joinTo h n) (i * w + k) 0 ≡ getD (h i) k 0
+  unfolding joinTo
+  getD-joined zero size i k l lk = absurd (omega arith)
+  getD-joined (suc n) size i k l lk =
+      let long : length (joinTo h n) ≡ n * w = length-joined n (λ j m. size j (omega arith)) in
+      last-or-below i n l
+      (λ e. rw (e, ← long) (getD-append-add (joinTo h n) (h n) k 0))
+      (λ m. List·getD-append (joinTo h n) (h n) 0 (i * w + k) (rw long (row-below n w i k m lk))
+      ∙ getD-joined n (λ j o. size j (omega arith)) i k m lk)
