@@ -28,7 +28,7 @@ use Rattle.delivery.specs.Layout.{eachEntry, eachRow, isDue, inRange, upperReco
 use Rattle.inequalities.specs.Inequalities.{deadTest, upperTest, belowTest, lowerTest, meanTest, deadTests, upperTests, belowTests, lowerTests, meanTests}
 use Rattle.certificate.specs.Verdict.{numberTests, shapedTests, deliveryTests}
 use Rattle.certificate.specs.Margin.{marginOf, shownMargin}
-use Rattle.certificate.specs.Edges.{zToZ, AllHold, wDelivery, edges, answered, dueTo, badInputs, failTwice, placesAndEnds, greatest, lastUpper}
+use Rattle.certificate.specs.Edges.{zToZ, AllHold, wDelivery, edges, answerTo, dueTo, badInputs, failTwice, placesAndEnds, greatest, lastUpper}
 use Rattle.model.proofs.Accepted.{model-accepted, is-model}
 use Rattle.certificate.proofs.Accepted.{dead-exactly}
 
@@ -79,27 +79,27 @@ edges-hold = (
 )
 
 -- Bad input gets the answer that is due.
-pub bad-inputs-answered : map answered badInputs ≡ map dueTo badInputs
+pub bad-inputs-answered : map answerTo badInputs ≡ map dueTo badInputs
 unfolding first each joinTo wordAt sign sum sumTo leastTo fits overRow f meanSide mark isLive alive share shareAt margin recordsOf field weight greatestTo statesOf symbolsOf ruleOf listTo rulesOf rowOf rowSum wholeRecords rangeAt unusedAt weightAt ascends recordTests rowTests rowsTests modelTests modelVerdict byteOf valueAt meansFrom recordsIn longAs lowersOrMeans shapeOf uppersOf lowersOf meansOf eachEntry eachRow isDue inRange layout.recordTests deadTest upperTest belowTest lowerTest meanTest upperRecords lowerRecords meanRecords deadTests upperTests belowTests lowerTests meanTests layoutTests numberTests shapedTests deliveryTests verdict.verdict marginOf shownMargin
 bad-inputs-answered = refl
 
 -- So do files that fail twice.
-pub fail-twice-answered : map answered failTwice ≡ map dueTo failTwice
+pub fail-twice-answered : map answerTo failTwice ≡ map dueTo failTwice
 unfolding first each joinTo wordAt sign sum sumTo leastTo fits overRow f meanSide mark isLive alive share shareAt margin recordsOf field weight greatestTo statesOf symbolsOf ruleOf listTo rulesOf rowOf rowSum wholeRecords rangeAt unusedAt weightAt ascends recordTests rowTests rowsTests modelTests modelVerdict byteOf valueAt meansFrom recordsIn longAs lowersOrMeans shapeOf uppersOf lowersOf meansOf eachEntry eachRow isDue inRange layout.recordTests deadTest upperTest belowTest lowerTest meanTest upperRecords lowerRecords meanRecords deadTests upperTests belowTests lowerTests meanTests layoutTests numberTests shapedTests deliveryTests verdict.verdict marginOf shownMargin
 fail-twice-answered = refl
 
 -- So do the ends of ranges and later places.
-pub places-and-ends-answered : map answered placesAndEnds ≡ map dueTo placesAndEnds
+pub places-and-ends-answered : map answerTo placesAndEnds ≡ map dueTo placesAndEnds
 unfolding first each joinTo wordAt sign sum sumTo leastTo fits overRow f meanSide mark isLive alive share shareAt margin recordsOf field weight greatestTo statesOf symbolsOf ruleOf listTo rulesOf rowOf rowSum wholeRecords rangeAt unusedAt weightAt ascends recordTests rowTests rowsTests modelTests modelVerdict byteOf valueAt meansFrom recordsIn longAs lowersOrMeans shapeOf uppersOf lowersOf meansOf eachEntry eachRow isDue inRange layout.recordTests deadTest upperTest belowTest lowerTest meanTest upperRecords lowerRecords meanRecords deadTests upperTests belowTests lowerTests meanTests layoutTests numberTests shapedTests deliveryTests verdict.verdict marginOf shownMargin
 places-and-ends-answered = refl
 
 -- So does the greatest record.
-pub greatest-answered : map answered greatest ≡ map dueTo greatest
+pub greatest-answered : map answerTo greatest ≡ map dueTo greatest
 unfolding first each joinTo wordAt sign sum sumTo leastTo fits overRow f meanSide mark isLive alive share shareAt margin recordsOf field weight greatestTo statesOf symbolsOf ruleOf listTo rulesOf rowOf rowSum wholeRecords rangeAt unusedAt weightAt ascends recordTests rowTests rowsTests modelTests modelVerdict byteOf valueAt meansFrom recordsIn longAs lowersOrMeans shapeOf uppersOf lowersOf meansOf eachEntry eachRow isDue inRange layout.recordTests deadTest upperTest belowTest lowerTest meanTest upperRecords lowerRecords meanRecords deadTests upperTests belowTests lowerTests meanTests layoutTests numberTests shapedTests deliveryTests verdict.verdict marginOf shownMargin
 greatest-answered = refl
 
 -- So does the last upper of two states and two symbols.
-pub last-upper-answered : map answered lastUpper ≡ map dueTo lastUpper
+pub last-upper-answered : map answerTo lastUpper ≡ map dueTo lastUpper
 unfolding first each joinTo wordAt sign sum sumTo leastTo fits overRow f meanSide mark isLive alive share shareAt margin recordsOf field weight greatestTo statesOf symbolsOf ruleOf listTo rulesOf rowOf rowSum wholeRecords rangeAt unusedAt weightAt ascends recordTests rowTests rowsTests modelTests modelVerdict byteOf valueAt meansFrom recordsIn longAs lowersOrMeans shapeOf uppersOf lowersOf meansOf eachEntry eachRow isDue inRange layout.recordTests deadTest upperTest belowTest lowerTest meanTest upperRecords lowerRecords meanRecords deadTests upperTests belowTests lowerTests meanTests layoutTests numberTests shapedTests deliveryTests verdict.verdict marginOf shownMargin
 last-upper-answered = refl
 

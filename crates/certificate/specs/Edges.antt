@@ -105,8 +105,8 @@ abbrev pub refusedAt : ℕ → ℕ → Answer
 refusedAt n i = refused n i (pos 0)
 
 -- The answer to an input, and the answer that is due to it.
-abbrev pub answered : Input → Answer
-answered c = answerOf (verdict (c .model) (c .delivery))
+abbrev pub answerTo : Input → Answer
+answerTo c = answerOf (verdict (c .model) (c .delivery))
 
 abbrev pub dueTo : Input → Answer
 dueTo c = c .due

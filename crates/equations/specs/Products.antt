@@ -1,6 +1,7 @@
 -- Names for what the functions work out from the bytes of a model and of blocks of a delivery.
 use Prim.Native.Nat.{ℕ, _*_, _/_, _%_}
 use mathlib.Core.List.{List}
+use Rattle.walks.specs.Order.{byRow}
 use Rattle.ppda.specs.Units.{chanceUnit, stepUnit}
 use Rattle.ppda.specs.Equations.{through, f, stepsThrough, meanSide}
 use Rattle.model.specs.declared.sizes.Sizes.{Sizes}
@@ -18,19 +19,19 @@ throughOf b i n d q = through (n .states) chanceUnit (uppersOf (n .states) (n .s
 
 -- f of the numbers of the block d, at the entry of row number k with exit q.
 abbrev pub fOf : List ℕ → Sizes → List ℕ → ℕ → ℕ → ℕ
-fOf b n d k q = f (rulesOf b) (n .states) chanceUnit (uppersOf (n .states) (n .symbols) d) (k / n .symbols) (k % n .symbols) q
+fOf b n d k q = byRow (n .symbols) (f (rulesOf b) (n .states) chanceUnit (uppersOf (n .states) (n .symbols) d)) k q
 
 -- One product of the mean steps' right side: u(r, y, t) × e(t, x).
 abbrev pub stepsProduct : ℕ → ℕ → List ℕ → List ℕ → ℕ → ℕ → ℕ → ℕ → ℕ
 stepsProduct s g u e r y x t = uppersOf s g u r y t * rowsOfBlock g e t x
 
 -- What record i adds to its row's right side, before its weight, for the uppers of the block u and the mean steps of the block e.
-abbrev pub stepsOf : List ℕ → ℕ → Sizes → List ℕ → List ℕ → ℕ
-stepsOf b i n u e =
+abbrev pub stepsAdded : List ℕ → ℕ → Sizes → List ℕ → List ℕ → ℕ
+stepsAdded b i n u e =
     stepsThrough (n .states) chanceUnit (uppersOf (n .states) (n .symbols) u) (rowsOfBlock (n .symbols) e) (target b i) (pushAt b i)
 
 -- The right side for row number k.
 abbrev pub meanSideOf : List ℕ → Sizes → List ℕ → List ℕ → ℕ → ℕ
 meanSideOf b n u e k =
-    meanSide (rulesOf b) (n .states) chanceUnit stepUnit (uppersOf (n .states) (n .symbols) u) (rowsOfBlock (n .symbols) e)
-    (k / n .symbols) (k % n .symbols)
+    byRow (n .symbols)
+    (meanSide (rulesOf b) (n .states) chanceUnit stepUnit (uppersOf (n .states) (n .symbols) u) (rowsOfBlock (n .symbols) e)) k

@@ -22,7 +22,7 @@ ghost use Rattle.model.specs.Sizes.{Fits};
 ghost use Rattle.delivery.specs.Numbers.{rowsOfBlock};
 ghost use Rattle.delivery.specs.Walks.{HasRecords, Chances, MeanSteps};
 ghost use Rattle.rows.specs.Starts.{Indexed};
-ghost use Rattle.equations.specs.Products.{stepsProduct, stepsOf, meanSideOf};
+ghost use Rattle.equations.specs.Products.{stepsProduct, stepsAdded, meanSideOf};
 
 // One step, in 1/2^44 of a step: what a rule's move costs.
 const STEP: u64 = WEIGHT_UNIT * CHANCE_UNIT * STEP_UNIT;
@@ -56,7 +56,7 @@ fn steps_two(uppers: &[u8], means: &[u8], n: Sizes, r: usize, y: usize, x: usize
 fn steps_through(model: &[u8], i: usize, uppers: &[u8], means: &[u8], n: Sizes) -> u64
     requires files { ⌜ Sized (now model) (n .states) (n .symbols) × Chances n (now uppers) × MeanSteps n (now means) ⌝ }
     requires inside { ⌜ i < recordsOf (now model) ⌝ }
-    ensures { λ a. ⌜ (a ≡ stepsOf (now (model .entry)) i n (now (uppers .entry)) (now (means .entry))) × (a ≤ 2 ^ 46 + 2 ^ 42) ⌝ }
+    ensures { λ a. ⌜ (a ≡ stepsAdded (now (model .entry)) i n (now (uppers .entry)) (now (means .entry))) × (a ≤ 2 ^ 46 + 2 ^ 42) ⌝ }
 {
     let l = pushes(model, i);
     if l == 0 {

@@ -3,10 +3,10 @@ use Prim.Native.Nat.{ℕ}
 use mathlib.Core.List.{List}
 use Rattle.report.specs.declared.Printout.{Printout}
 use Rattle.report.specs.Printed.{printed}
-use Rattle.report.specs.Walks.{Holds}
+use Rattle.report.specs.Walks.{HoldsText}
 
 -- The printout is the report on some two byte strings: which bytes the system hands out, no contract can say.
 pub record ReportOnSome (r : Printout) : Type 0 where
   pub model : List ℕ
   pub delivery : List ℕ
-  pub report : Holds r (printed model delivery)
+  pub report : HoldsText r (printed model delivery)

@@ -13,7 +13,7 @@ use Rattle.delivery.specs.declared.shape.Shape.the-variants.{U}
 use Rattle.delivery.specs.declared.shape.Shaped as Shapes
 use Rattle.delivery.specs.declared.shape.Shaped.the-variants as Shaped
 use Rattle.delivery.specs.Shapes.{hasLowers, hasMeans}
-use Rattle.walks.specs.Order.{entriesIn, rowsIn}
+use Rattle.walks.specs.Order.{entriesIn, rowsIn, byRow, byEntry}
 use Rattle.delivery.specs.Numbers.{uppersOf, lowersOf, meansOf}
 use Rattle.live.specs.Shown.{liveMark}
 use Rattle.certificate.specs.Margin.{marginOf}
@@ -26,13 +26,13 @@ use Rattle.held.specs.declared.Numbers.{Numbers}
 unfoldable pub padded : (ℕ → ℕ) → ℕ → List ℕ
 padded h n = listTo (λ e. cond (ltb e n) (h e) 0) mostEntries
 
--- A vector as the register holds it: its numbers in file order. Entry number e is ((e / s) / g, (e / s) % g, e % s).
+-- A vector as the register holds it: its numbers in file order.
 abbrev pub listed : ℕ → ℕ → Vector → List ℕ
-listed s g v = padded (λ e. v (e / s / g) (e / s % g) (e % s)) (entriesIn s g)
+listed s g v = padded (byEntry s g v) (entriesIn s g)
 
--- Numbers of rows as the register holds them: row number k is (k / g, k % g).
+-- Numbers of rows as the register holds them.
 abbrev pub listedRows : ℕ → ℕ → RowVector → List ℕ
-listedRows s g r = padded (λ k. r (k / g) (k % g)) (rowsIn s g)
+listedRows s g r = padded (byRow g r) (rowsIn s g)
 
 -- The bytes of a file as the register holds them: in the first of n places, and 0 after them.
 unfoldable pub filled : ℕ → List ℕ → List ℕ

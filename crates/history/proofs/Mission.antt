@@ -30,7 +30,7 @@ use Rattle.certificate.specs.Verdict.{verdict}
 use Rattle.certificate.specs.Margin.{marginOf}
 use Rattle.certificate.proofs.Holds.{upper-of-files, lower-of-shape, lower-as-shown-of-shape, mean-of-files}
 use Rattle.history.specs.Calls.{Call, upper, lower, meanSteps, margin, live, Reply, value, refused, refusal}
-use Rattle.history.specs.Plain.{lastModel, lastDelivery, ofModel, ofDelivery, ofBlock, atEntry, atRow, plain}
+use Rattle.history.specs.Plain.{lastModel, lastDelivery, ofModel, ofDelivery, ofBlock, atEntry, atRow, plainReply}
 use Rattle.history.specs.Run.{replyTo, history}
 use Rattle.history.specs.Mission.{Holds, UpperShown, LowerHeld, LowerShown, MeanShown, LiveShown, LiveRefused}
 use Rattle.history.proofs.Pairs.{lowerReply, meanReply, Right, model-right}
@@ -102,13 +102,13 @@ module _ {cs : List Call} {b d : List ℕ} (files : Files cs b d) where
 
   upper-replied : (p z q : ℕ) → p < statesOf b → z < symbolsOf b → q < statesOf b
       → replyTo cs (upper p z q) ≡ value (uppersOf (statesOf b) (symbolsOf b) d p z q)
-  unfolding plain
+  unfolding plainReply
   upper-replied p z q hp hz hq =
       as-plain-pair cs (upper p z q)
       ∙ rw (files .model, files .delivery, lt-ltb p (statesOf b) hp, lt-ltb z (symbolsOf b) hz, lt-ltb q (statesOf b) hq)
 
   margin-replied : {h : Shape} → shapeOf (statesOf b) (symbolsOf b) d ≡ Of h → hasLowers h ≡ true → replyTo cs margin ≡ value (marginOf b d)
-  unfolding plain
+  unfolding plainReply
   margin-replied shape has = as-plain-pair cs margin ∙ rw (files .model, files .delivery, shape, has)
 
   lower-of : (p z q l : ℕ) → atEntry b p z q (lowerReply b d p z q) ≡ value l → LowerHeld cs p z q l
@@ -138,20 +138,20 @@ module _ {cs : List Call} {b d : List ℕ} (files : Files cs b d) where
 -- ---- point 3, after any list of calls
 
 pub upper-shown : (cs : List Call) → UpperShown cs
-unfolding plain
+unfolding plainReply
 upper-shown cs p z q u e =
     let (b, d, files, reply) = files-asked cs (λ b d. atEntry b p z q (value (uppersOf (statesOf b) (symbolsOf b) d p z q)))
     (sym (as-plain-pair cs (upper p z q)) ∙ e) in
     (b, files .model, upper-of files p z q u reply)
 
 pub lower-shown : (cs : List Call) → LowerShown cs
-unfolding plain
+unfolding plainReply
 lower-shown cs p z q l e =
     let (b, d, files, reply) = files-asked cs (λ b d. atEntry b p z q (lowerReply b d p z q)) (sym (as-plain-pair cs (lower p z q)) ∙ e) in
     lower-of files p z q l reply
 
 pub mean-shown : (cs : List Call) → MeanShown cs
-unfolding plain
+unfolding plainReply
 mean-shown cs p z r e =
     let (b, d, files, reply) = files-asked cs (λ b d. atRow b p z (meanReply b d p z)) (sym (as-plain-pair cs (meanSteps p z)) ∙ e) in
     (b, files .model, mean-of files p z r reply)
@@ -164,7 +164,7 @@ unfolding liveMark
 live-bit b p z q is = rw is (alive-is-bit (rulesOf b) (statesOf b) (symbolsOf b) p z q)
 
 pub live-shown : (cs : List Call) → LiveShown cs
-unfolding plain
+unfolding plainReply
 live-shown cs p z q a e =
     let (b, held, inner) = model-asked (lastModel (history cs)) (λ b. atEntry b p z q (value (liveMark b p z q)))
     (sym (as-plain-pair cs (live p z q)) ∙ e) in
@@ -184,7 +184,7 @@ forty-or-44 (some b) t v {n} {i} {k} e = go (t b) e
     go false e = inr cc
 
 pub live-refused : (cs : List Call) → LiveRefused cs
-unfolding plain
+unfolding plainReply
 live-refused cs p z q number place shortfall e =
     forty-or-44 (lastModel (history cs)) (λ b. (ltb p (statesOf b) && ltb z (symbolsOf b)) && ltb q (statesOf b)) (λ b. liveMark b p z q)
     (sym (as-plain-pair cs (live p z q)) ∙ e)

@@ -38,8 +38,8 @@ use Rattle.register.specs.Filing.{fileOf, withModel, modelBy, deliveryBy, recei
 use Rattle.register.specs.Questions.{answered, upperIn, lowerIn, meanIn, marginIn, liveIn}
 use Rattle.register.proofs.Steps.{same-found}
 use Rattle.history.specs.Calls.{Call, clear, fileModel, fileDelivery, upper, lower, meanSteps, margin, live, Reply, accepted, known, new, value, refusal, taken}
-use Rattle.history.specs.Plain.{Pair, ofModel, ofDelivery, ifNone, atRow, atEntry, ofBlock, byVerdict, sameRecord, sameUppers, markOf, modelAfter, deliveryAfter, plain}
-use Rattle.history.specs.Run.{modelReply, markReply, deliveryReply, answerReply, after, replyOf, holding, registerOf}
+use Rattle.history.specs.Plain.{Pair, ofModel, ofDelivery, ifNone, atRow, atEntry, ofBlock, byVerdict, sameRecord, sameUppers, markOf, modelAfter, deliveryAfter, plainReply}
+use Rattle.history.specs.Run.{modelReply, markReply, deliveryReply, answerReply, afterCall, replyOf, holding, registerOf}
 
 -- The reply to a question on a block that the held delivery may have, for the model b and the delivery d.
 abbrev pub lowerReply : List ℕ → List ℕ → ℕ → ℕ → ℕ → Reply
@@ -302,8 +302,8 @@ unfolding liveIn
 live-of-pair none y right p z q = rw cleared-holds
 live-of-pair (some b) y right p z q = live-reply b y right p z q
 
-pub reply-of-pair : (x : Pair) → Right (x .model) (x .delivery) → (c : Call) → replyOf (registerOf x) c ≡ plain x c
-unfolding replyOf plain registerOf
+pub reply-of-pair : (x : Pair) → Right (x .model) (x .delivery) → (c : Call) → replyOf (registerOf x) c ≡ plainReply x c
+unfolding replyOf plainReply registerOf
 reply-of-pair x right clear = refl
 reply-of-pair x right (fileModel b) = model-filed (x .delivery) (x .model) right b
 reply-of-pair x right (fileDelivery d) = delivery-filed (x .delivery) (x .model) right d
@@ -319,12 +319,12 @@ reply-of-pair x right (live p z q) = live-of-pair (x .model) (x .delivery) right
 abbrev pub pairAfter : Pair → Call → Pair
 pairAfter x c =
     record {
-      model = modelAfter c (taken (plain x c)) (x .model);
-      delivery = deliveryAfter c (taken (plain x c)) (x .delivery);
+      model = modelAfter c (taken (plainReply x c)) (x .model);
+      delivery = deliveryAfter c (taken (plainReply x c)) (x .delivery);
     }
 
 pub record Next (x : Pair) (c : Call) : Type 0 where
-  pub held : after (registerOf x) c ≡ registerOf (pairAfter x c)
+  pub held : afterCall (registerOf x) c ≡ registerOf (pairAfter x c)
   pub right : Right (pairAfter x c .model) (pairAfter x c .delivery)
 
 module _ (y : Option (List ℕ)) where
@@ -355,7 +355,7 @@ module _ (y : Option (List ℕ)) where
       go (Refused x i k) e = (refl, right)
 
 pub next-of-pair : (x : Pair) → Right (x .model) (x .delivery) → (c : Call) → Next x c
-unfolding after plain registerOf
+unfolding afterCall plainReply registerOf
 next-of-pair x right clear = record { held = refl; right = refl }
 next-of-pair x right (fileModel b) = let (held, again) = model-after (x .delivery) (x .model) right b in record { held = held; right = again }
 next-of-pair x right (fileDelivery d) = let (held, again) = delivery-after (x .delivery) (x .model) right d in record { held = held; right = again }

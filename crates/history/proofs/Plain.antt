@@ -14,8 +14,8 @@ use Rattle.model.proofs.Accepted.{model-accepted}
 use Rattle.certificate.specs.Verdict.{verdict}
 use Rattle.certificate.proofs.Accepted.{delivery-accepted}
 use Rattle.history.specs.Calls.{Call, fileModel, fileDelivery, accepted, taken}
-use Rattle.history.specs.Plain.{lastModel, lastDelivery, pairOf, ofModel, ifNone, byVerdict, markOf, plain}
-use Rattle.history.specs.Run.{after, replyOf, registerAfter, history, registerOf}
+use Rattle.history.specs.Plain.{lastModel, lastDelivery, pairOf, ofModel, ifNone, byVerdict, markOf, plainReply}
+use Rattle.history.specs.Run.{afterCall, replyOf, registerAfter, history, registerOf}
 use Rattle.history.specs.Mission.{HoldsPair, AsPlainPair, ModelTaken, DeliveryTaken}
 use Rattle.history.proofs.Pairs.{Right, mark-taken, reply-of-pair, next-of-pair}
 
@@ -34,7 +34,7 @@ held-after (c ∷ cs) =
     let at = held-after cs in
     let next = next-of-pair (pairOf (history cs)) (at .right) c in
     record {
-      pair = rw (replied cs at c) (ap (λ r. after r c) (at .pair) ∙ next .held);
+      pair = rw (replied cs at c) (ap (λ r. afterCall r c) (at .pair) ∙ next .held);
       right = rw (replied cs at c) (next .right);
     }
 
@@ -61,7 +61,7 @@ model-by (some b) o = (
 )
 
 pub model-taken : (cs : List Call) → ModelTaken cs
-unfolding plain
+unfolding plainReply
 model-taken cs b =
     let (from, to) = model-by (lastModel (history cs)) (modelVerdict b) in
     let same = as-plain-pair cs (fileModel b) in (
@@ -82,7 +82,7 @@ delivery-by (some b) y d = (
     go (Refused x i k) e = absurd (false≢true e)
 
 pub delivery-taken : (cs : List Call) → DeliveryTaken cs
-unfolding plain
+unfolding plainReply
 delivery-taken cs d =
     let (from, to) = delivery-by (lastModel (history cs)) (lastDelivery (history cs)) d in
     let same = ap taken (as-plain-pair cs (fileDelivery d)) in (

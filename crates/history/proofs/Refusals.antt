@@ -17,7 +17,7 @@ use Rattle.register.specs.Filing as Filing
 use Rattle.register.specs.Filing.{fileOf, modelBy, deliveryBy}
 use Rattle.held.specs.Held.{holdsModel}
 use Rattle.history.specs.Calls.{Call, clear, fileModel, fileDelivery, upper, lower, meanSteps, margin, live, refused}
-use Rattle.history.specs.Run.{modelReply, markReply, deliveryReply, after, replyOf}
+use Rattle.history.specs.Run.{modelReply, markReply, deliveryReply, afterCall, replyOf}
 use Rattle.history.specs.Mission.{RefusedKeeps}
 
 -- A mark is no refusal.
@@ -37,7 +37,7 @@ delivery-keeps Accepted r b d e = absurd (mark-not-refused (deliveryBy Accepted 
 delivery-keeps (Refused x j l) r b d e = refl
 
 pub refused-keeps : (r : Register) (c : Call) → RefusedKeeps r c
-unfolding after replyOf Filing.fileModel Filing.fileDelivery
+unfolding afterCall replyOf Filing.fileModel Filing.fileDelivery
 refused-keeps r clear n i k e = let z : _≡_ {A = ℕ} 0 1 = cc in absurd (omega arith)
 refused-keeps r (fileModel b) n i k e =
     model-keeps (cond (holdsModel (r .model .length)) (Refused ModelHeld 0 (pos 0)) (modelVerdict b)) r b e

@@ -9,7 +9,7 @@ use Rattle.delivery.specs.Made.{deliveryRecord}
 use Rattle.certificate.specs.Edges.{oneRule, wDelivery}
 use Rattle.register.specs.Filing as Filing
 use Rattle.history.specs.Calls.{Call, clear, fileModel, fileDelivery, upper, lower, meanSteps, margin, live, Reply, cleared, accepted, known, new, value, refused, refusal}
-use Rattle.history.specs.Plain.{Event, pairOf, plain}
+use Rattle.history.specs.Plain.{Event, pairOf, plainReply}
 use Rattle.history.specs.Run.{replies}
 
 abbrev pub due : Call → Reply → Event
@@ -24,28 +24,28 @@ replyDue e = e .reply
 -- Each reply is the one due, after the exchanges before it.
 abbrev pub AllReplied : List Event → List Event → Type 0
 AllReplied past [] = Unit {0}
-AllReplied past (e ∷ es) = (plain (pairOf past) (e .call) ≡ e .reply) × AllReplied (e ∷ past) es
+AllReplied past (e ∷ es) = (plainReply (pairOf past) (e .call) ≡ e .reply) × AllReplied (e ∷ past) es
 
 -- An empty register replies to the calls as is due.
 abbrev pub Replied : List Event → Type 0
 Replied es = replies Filing.cleared (map callOf es) ≡ map replyDue es
 
 -- Deliveries for W: the uppers alone, with the last one open; with lowers; with mean steps.
-abbrev pub wUppersWith : ℕ → List ℕ
-wUppersWith u =
+abbrev pub uppersFileWith : ℕ → List ℕ
+uppersFileWith u =
     deliveryRecord 85 0 0 0 655360 ++ (deliveryRecord 85 0 0 1 524288
     ++ (deliveryRecord 85 1 0 0 0 ++ deliveryRecord 85 1 0 1 u))
 
-abbrev pub wUppers : List ℕ
-wUppers = wUppersWith 1179648
+abbrev pub uppersFile : List ℕ
+uppersFile = uppersFileWith 1179648
 
-abbrev pub wLowers : List ℕ
-wLowers =
-    wUppers ++ (deliveryRecord 76 0 0 0 524288 ++ (deliveryRecord 76 0 0 1 393216
+abbrev pub lowersFile : List ℕ
+lowersFile =
+    uppersFile ++ (deliveryRecord 76 0 0 0 524288 ++ (deliveryRecord 76 0 0 1 393216
     ++ (deliveryRecord 76 1 0 0 0 ++ deliveryRecord 76 1 0 1 1048576)))
 
-abbrev pub wMeans : List ℕ
-wMeans = wUppers ++ (deliveryRecord 82 0 0 0 512 ++ deliveryRecord 82 1 0 0 256)
+abbrev pub meansFile : List ℕ
+meansFile = uppersFile ++ (deliveryRecord 82 0 0 0 512 ++ deliveryRecord 82 1 0 0 256)
 
 -- Nothing is held: 40, whatever is filed or asked.
 abbrev pub emptyExchanges : List Event
@@ -83,8 +83,8 @@ modelExchanges =
 abbrev pub upperExchanges : List Event
 upperExchanges =
     due (fileModel wFile) accepted
-    ∷ due (fileDelivery wUppers) new
-    ∷ due (fileDelivery wUppers) known
+    ∷ due (fileDelivery uppersFile) new
+    ∷ due (fileDelivery uppersFile) known
     ∷ due (upper 0 0 1) (value 524288)
     ∷ due (upper 1 0 1) (value 1179648)
     ∷ due (upper 0 1 0) (refusal 44)
@@ -95,17 +95,17 @@ upperExchanges =
     ∷ due (meanSteps 0 0) (refusal 43)
     ∷ due margin (refusal 43)
     ∷ due (live 1 0 1) (value 1)
-    ∷ due (fileDelivery (wUppersWith 1179647)) new
+    ∷ due (fileDelivery (uppersFileWith 1179647)) new
     ∷ due (upper 1 0 1) (value 1179647)
-    ∷ due (fileDelivery wUppers) new
+    ∷ due (fileDelivery uppersFile) new
     ∷ []
 
 -- The same uppers with lowers are known; mean steps get 43.
 abbrev pub lowerExchanges : List Event
 lowerExchanges =
     due (fileModel wFile) accepted
-    ∷ due (fileDelivery wUppers) new
-    ∷ due (fileDelivery wLowers) known
+    ∷ due (fileDelivery uppersFile) new
+    ∷ due (fileDelivery lowersFile) known
     ∷ due (lower 0 0 1) (value 393216)
     ∷ due margin (value 45875)
     ∷ due (meanSteps 0 0) (refusal 43)
@@ -115,8 +115,8 @@ lowerExchanges =
 abbrev pub meanExchanges : List Event
 meanExchanges =
     due (fileModel wFile) accepted
-    ∷ due (fileDelivery wUppers) new
-    ∷ due (fileDelivery wMeans) known
+    ∷ due (fileDelivery uppersFile) new
+    ∷ due (fileDelivery meansFile) known
     ∷ due (meanSteps 0 0) (value 512)
     ∷ due (meanSteps 1 0) (value 256)
     ∷ due (lower 0 0 0) (refusal 43)

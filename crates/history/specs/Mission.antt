@@ -16,19 +16,19 @@ use Rattle.certificate.specs.Accepted.{Filed}
 use Rattle.register.specs.declared.Register.{Register}
 use Rattle.register.specs.Filing.{cleared}
 use Rattle.history.specs.Calls.{Call, fileModel, fileDelivery, upper, lower, meanSteps, margin, live, accepted, value, refused, taken}
-use Rattle.history.specs.Plain.{lastModel, pairOf, plain, plainReplies}
-use Rattle.history.specs.Run.{after, replyOf, registerAfter, replyTo, history, replies, registerOf}
+use Rattle.history.specs.Plain.{lastModel, pairOf, plainReply, plainReplies}
+use Rattle.history.specs.Run.{afterCall, replyOf, registerAfter, replyTo, history, replies, registerOf}
 
 -- Point 1, on refusals: "a refused call changes nothing", for any value of a register.
 abbrev pub RefusedKeeps : Register → Call → Type 0
-RefusedKeeps r c = (number place : ℕ) (shortfall : ℤ) → replyOf r c ≡ refused number place shortfall → after r c ≡ r
+RefusedKeeps r c = (number place : ℕ) (shortfall : ℤ) → replyOf r c ≡ refused number place shortfall → afterCall r c ≡ r
 
 -- Point 2: the register holds the files last accepted since it was cleared and nothing else; and every call is replied as the plain pair would.
 abbrev pub HoldsPair : List Call → Type 0
 HoldsPair cs = registerAfter cs ≡ registerOf (pairOf (history cs))
 
 abbrev pub AsPlainPair : List Call → Type 0
-AsPlainPair cs = (c : Call) → replyTo cs c ≡ plain (pairOf (history cs)) c
+AsPlainPair cs = (c : Call) → replyTo cs c ≡ plainReply (pairOf (history cs)) c
 
 -- The same for calls in the order of time, from an empty register.
 abbrev pub RepliesAsPlain : List Call → Type 0

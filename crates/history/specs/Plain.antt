@@ -118,25 +118,25 @@ markOf b none d = new
 markOf b (some e) d = cond (sameUppers b e d) known new
 
 -- The reply of the plain pair.
-unfoldable pub plain : Pair → Call → Reply
-plain x clear = cleared
-plain x (fileModel b) = ifNone (x .model) (byVerdict (modelVerdict b) accepted)
-plain x (fileDelivery d) = ofModel (x .model) (λ b. byVerdict (verdict b d) (markOf b (x .delivery) d))
-plain x (upper p z q) =
+unfoldable pub plainReply : Pair → Call → Reply
+plainReply x clear = cleared
+plainReply x (fileModel b) = ifNone (x .model) (byVerdict (modelVerdict b) accepted)
+plainReply x (fileDelivery d) = ofModel (x .model) (λ b. byVerdict (verdict b d) (markOf b (x .delivery) d))
+plainReply x (upper p z q) =
     ofModel (x .model) (λ b. ofDelivery (x .delivery) (λ d. atEntry b p z q (value (uppersOf (statesOf b) (symbolsOf b) d p z q))))
-plain x (lower p z q) =
+plainReply x (lower p z q) =
     ofModel (x .model) (λ b. ofDelivery (x .delivery) (λ d.
     atEntry b p z q (ofBlock hasLowers (shapeOf (statesOf b) (symbolsOf b) d) (λ h. value (lowersOf (statesOf b) (symbolsOf b) d p z q)))))
-plain x (meanSteps p z) =
+plainReply x (meanSteps p z) =
     ofModel (x .model) (λ b. ofDelivery (x .delivery) (λ d.
     atRow b p z (ofBlock hasMeans (shapeOf (statesOf b) (symbolsOf b) d) (λ h. value (meansOf (statesOf b) (symbolsOf b) h d p z)))))
-plain x margin =
+plainReply x margin =
     ofModel (x .model) (λ b. ofDelivery (x .delivery) (λ d.
     ofBlock hasLowers (shapeOf (statesOf b) (symbolsOf b) d) (λ h. value (marginOf b d))))
-plain x (live p z q) = ofModel (x .model) (λ b. atEntry b p z q (value (liveMark b p z q)))
+plainReply x (live p z q) = ofModel (x .model) (λ b. atEntry b p z q (value (liveMark b p z q)))
 
 -- The replies of the plain pair to calls in the order of time, after the history es.
 unfoldable pub plainReplies : List Event → List Call → List Reply
 plainReplies es [] = []
 plainReplies es (c ∷ cs) =
-    plain (pairOf es) c ∷ plainReplies (record { call = c; reply = plain (pairOf es) c } ∷ es) cs
+    plainReply (pairOf es) c ∷ plainReplies (record { call = c; reply = plainReply (pairOf es) c } ∷ es) cs

@@ -34,15 +34,15 @@ answerReply (Answers.Value n) = value n
 answerReply (Answers.Refused x i k) = refused (numberOf x) i k
 
 -- The register after a call, and the reply.
-unfoldable pub after : Register → Call → Register
-after r clear = Filing.cleared
-after r (fileModel b) = Filing.fileModel r b .register
-after r (fileDelivery d) = Filing.fileDelivery r d .register
-after r (upper p z q) = r
-after r (lower p z q) = r
-after r (meanSteps p z) = r
-after r margin = r
-after r (live p z q) = r
+unfoldable pub afterCall : Register → Call → Register
+afterCall r clear = Filing.cleared
+afterCall r (fileModel b) = Filing.fileModel r b .register
+afterCall r (fileDelivery d) = Filing.fileDelivery r d .register
+afterCall r (upper p z q) = r
+afterCall r (lower p z q) = r
+afterCall r (meanSteps p z) = r
+afterCall r margin = r
+afterCall r (live p z q) = r
 
 unfoldable pub replyOf : Register → Call → Reply
 replyOf r clear = cleared
@@ -57,7 +57,7 @@ replyOf r (live p z q) = answerReply (liveIn r p z q)
 -- The register after a list of calls, latest first, from an empty one; its history; and its reply to one call more.
 unfoldable pub registerAfter : List Call → Register
 registerAfter [] = Filing.cleared
-registerAfter (c ∷ cs) = after (registerAfter cs) c
+registerAfter (c ∷ cs) = afterCall (registerAfter cs) c
 
 abbrev pub replyTo : List Call → Call → Reply
 replyTo cs c = replyOf (registerAfter cs) c
@@ -69,7 +69,7 @@ history (c ∷ cs) = record { call = c; reply = replyTo cs c } ∷ history cs
 -- The replies of a register to calls in the order of time.
 unfoldable pub replies : Register → List Call → List Reply
 replies r [] = []
-replies r (c ∷ cs) = replyOf r c ∷ replies (after r c) cs
+replies r (c ∷ cs) = replyOf r c ∷ replies (afterCall r c) cs
 
 -- The register that holds a pair of files.
 abbrev pub holding : Option (List ℕ) → Option (List ℕ) → Register

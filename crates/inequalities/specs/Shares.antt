@@ -5,7 +5,7 @@ use mathlib.Core.List.{List}
 use mathlib.Core.Path.{_≡_}
 use Rattle.walks.specs.Sums.{leastTo}
 use Rattle.ppda.specs.Units.{chanceUnit, sumUnit}
-use Rattle.walks.specs.Order.{AtEntries}
+use Rattle.walks.specs.Order.{AtEntries, byRow}
 use Rattle.ppda.specs.Equations.{Vector, f}
 use Rattle.ppda.specs.Live.{isLive}
 use Rattle.ppda.specs.Margin.{shareAt}
@@ -35,7 +35,7 @@ shareOf b s g a u p z q =
 -- The least of them and of `top` in row number k.
 abbrev pub leastInRow : ℕ → List ℕ → Sizes → List ℕ → List ℕ → ℕ → ℕ
 leastInRow top b n a u k =
-    leastTo top (shareOf b (n .states) (n .symbols) a u (k / n .symbols) (k % n .symbols)) (n .states)
+    leastTo top (byRow (n .symbols) (shareOf b (n .states) (n .symbols) a u) k) (n .states)
 
 -- The least of all.
 unfoldable pub leastShare : List ℕ → ℕ → ℕ → List ℕ → List ℕ → ℕ

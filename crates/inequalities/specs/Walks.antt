@@ -4,7 +4,7 @@ use mathlib.Core.Bool.{Bool, true, false}
 use mathlib.Core.List.{List, [], _∷_}
 use Rattle.outcome.specs.Tests.{Test, each}
 use Rattle.ppda.specs.Units.{chanceUnit, stepUnit}
-use Rattle.walks.specs.Order.{entriesIn, rowAt, entryAt}
+use Rattle.walks.specs.Order.{entriesIn, rowAt, entryAt, byRow}
 use Rattle.ppda.specs.Equations.{f, meanSide}
 use Rattle.ppda.specs.Live.{isLive}
 use Rattle.model.specs.declared.sizes.Sizes.{Sizes}
@@ -23,7 +23,7 @@ deadAt s g a d from p z q = deadTest (isLive (exitMarks g a p z q)) (uppersOf s 
 
 -- The entries of row number k, and of all rows.
 abbrev pub deadRow : Sizes → List ℕ → List ℕ → ℕ → ℕ → List Test
-deadRow n a d from k = each (n .states) (deadAt (n .states) (n .symbols) a d from (k / n .symbols) (k % n .symbols))
+deadRow n a d from k = each (n .states) (byRow (n .symbols) (deadAt (n .states) (n .symbols) a d from) k)
 
 abbrev pub deadBlock : Sizes → List ℕ → List ℕ → ℕ → List Test
 deadBlock n a d from = eachEntry (n .states) (n .symbols) (deadAt (n .states) (n .symbols) a d from)
@@ -53,7 +53,7 @@ sideAt k b s g a d p z q =
 
 -- The entries of row number k, and of all rows.
 abbrev pub sideRow : Side → List ℕ → Sizes → List ℕ → List ℕ → ℕ → List Test
-sideRow side b n a d k = each (n .states) (sideAt side b (n .states) (n .symbols) a d (k / n .symbols) (k % n .symbols))
+sideRow side b n a d k = each (n .states) (byRow (n .symbols) (sideAt side b (n .states) (n .symbols) a d) k)
 
 abbrev pub sideBlock : Side → List ℕ → Sizes → List ℕ → List ℕ → List Test
 sideBlock side b n a d = eachEntry (n .states) (n .symbols) (sideAt side b (n .states) (n .symbols) a d)

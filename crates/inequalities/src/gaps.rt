@@ -6,8 +6,8 @@ use equations::chances::f;
 use model::sizes::Sizes;
 use rows::STARTS;
 ghost use mathlib.Core.Path.{_≡_};
-ghost use Prim.Native.Nat.{_/_, _%_, _<_};
-ghost use Rattle.walks.specs.Order.{rowsIn};
+ghost use Prim.Native.Nat.{_<_};
+ghost use Rattle.walks.specs.Order.{rowsIn, byRow};
 ghost use Rattle.inequalities.specs.Shares.{gapAt, Standing};
 
 // u − f(u) at the entry of a row, by its number, with exit q.
@@ -20,7 +20,7 @@ pub fn gap(
     q: usize,
 ) -> u64
     requires { ⌜ Standing (now model) n (now starts) (now uppers) × (row < rowsIn (n .states) (n .symbols)) × (q < n .states) ⌝ }
-    ensures { λ r. ⌜ r ≡ gapAt (now (model .entry)) (n .states) (n .symbols) (now (uppers .entry)) (row / n .symbols) (row % n .symbols) q ⌝ }
+    ensures { λ r. ⌜ r ≡ byRow (n .symbols) (gapAt (now (model .entry)) (n .states) (n .symbols) (now (uppers .entry))) row q ⌝ }
 {
     let y = f(model, starts, uppers, n, row, q);
     value_at(uppers, n.entry_in(row, q)) * SUM_UNIT - y

@@ -74,7 +74,7 @@ pub record Filing : Type 2 where
   -- a struct that is given has the machine value `struct-val`, its register and its answer are values of their types, and the right side evaluates
   pub spelled : (f : given .Denot) (u : Val) → Is given f (u ∷ []) → u ≡ struct-val (register f) (others f)
   pub registered : (f : given .Denot) (u : Val) → Is given f (u ∷ []) → Is R.the-row (register f) (register-val (register f) ∷ [])
-  pub answered : (f : given .Denot) (u : Val) → Is given f (u ∷ []) → Is result (answer f) (answer-val f ∷ [])
+  pub answerTo : (f : given .Denot) (u : Val) → Is given f (u ∷ []) → Is result (answer f) (answer-val f ∷ [])
   pub makes : {M : Type 1} (𝓤 : URA M) (H : Heap 𝓤) (A : Atoms 𝓤) → Makes 𝓤 H A result (Is result)
   pub typed : {M : Type 1} (𝓤 : URA M) (H : Heap 𝓤) (A : Atoms 𝓤) → Given 𝓤 H A
       → (f : given .Denot) (u : Val) → Is given f (u ∷ []) → Holds (hasTy (struct-of name tys) u) × WT u
@@ -243,7 +243,7 @@ module _ (F : Filing) {M : Type 1} (𝓤 : URA M) (H : Heap 𝓤) (A : Atoms �
         assigns ! (of-opd ! (load ! (from ! (fld ! refl (stop !))) (look-in ! 7 (sub ! 0 refl (whole !))))) (from ! (hop ! (look ! 11 refl) (stop !)))
         (store-raw ! 1 refl (LL.lawful R.the-type R′.the-laws 𝓤 H A W .typed (F .register f) _ (F .registered f u is) .0)) $
         move ! (7 ∷ []) $ assigns ! (F .evaluates 𝓤 H A W _ _ _ _ _ l₃ f) (from ! (stop !))
-        (init ! 13 refl (F .answer-typed 𝓤 H A W f (F .answered f u is))) $
+        (init ! 13 refl (F .answer-typed 𝓤 H A W f (F .answerTo f u is))) $
         -- [_3; Tok; the register's cell; the open borrow; obs; auth; _4; …; what frees _3; _2; …; _1; …; _0; …; Own; true]
         owned ! R.the-row (Is R.the-row) (LL.makes R.the-type R′.the-plain 𝓤 H A) (F .register f) _ (F .registered f u is) $
         move ! (3 ∷ 0 ∷ 4 ∷ 5 ∷ 6 ∷ []) $ closes ! tt R.the-row (F .register f) (register-val (F .register f) ∷ []) b o $
@@ -252,7 +252,7 @@ module _ (F : Filing) {M : Type 1} (𝓤 : URA M) (H : Heap 𝓤) (A : Atoms �
         returns ! (look ! 12 refl) $ forget ! 4 refl $ forget ! 6 refl $ forget ! 8 refl $ forget ! 10 refl $ forget ! 12 refl $
         move ! (12 ∷ 13 ∷ []) $ free1 ! $ move ! (10 ∷ 11 ∷ []) $ free1 ! $ move ! (8 ∷ 9 ∷ []) $ free1 ! $
         move ! (6 ∷ 7 ∷ []) $ free1 ! $ move ! (4 ∷ 5 ∷ []) $ free1 ! $ free0 ! $
-        keep ! (0 ∷ 1 ∷ 2 ∷ 3 ∷ 4 ∷ []) $ by ! (exits f e (F .answered f u is)))))))))))))
+        keep ! (0 ∷ 1 ∷ 2 ∷ 3 ∷ 4 ∷ []) $ by ! (exits f e (F .answerTo f u is)))))))))))))
 
 module _ (F : Filing) {M : Type 1} (𝓤 : URA M) (H : Heap 𝓤) (A : Atoms 𝓤) (W : Given 𝓤 H A) (Q : Ensures F 𝓤) (shown : Shown F 𝓤 Q) where
   walks : (C : Calls 𝓤 H) (Λ : Loops 𝓤 H) → FmC 𝓤 H (W .laws) C → Triple 𝓤 (C (F .callee)) (Files F 𝓤 H A)

@@ -9,16 +9,18 @@ use borrow.Author.Tests.{lt-ltb, le-leb, lt-leb, ne-eqb}
 use Rattle.outcome.specs.declared.Reason.{Reason}
 use Rattle.outcome.specs.declared.Outcome.the-variants.{Refused}
 use Rattle.outcome.specs.Reasons.{numberOf}
+use Rattle.model.specs.Format as model
+use Rattle.delivery.specs.Format as delivery
 use Rattle.model.specs.Records.{recordsOf}
 use Rattle.model.specs.Verdict.{modelVerdict}
 use Rattle.model.proofs.Places.{model-record}
 use Rattle.certificate.specs.Verdict.{verdict}
 use Rattle.certificate.proofs.Places.{rule-record, bound-record}
-use Rattle.lent.specs.Parts.{part, isWhole, recordPart, namesRule, namesBound, namesModel, inModel, inDelivery, offendingPart}
+use Rattle.lent.specs.Parts.{bytesFrom, isWhole, recordPart, namesRule, namesBound, namesModel, inModel, inDelivery, offendingPart}
 
 -- The part for a number and a whole record.
 module _ (n i : ℕ) (b d : List ℕ) where
-  rule-part : 11 ≤ n → n ≤ 14 → i < recordsOf b → offendingPart n i b d ≡ inModel (part (10 * i) 10)
+  rule-part : 11 ≤ n → n ≤ 14 → i < recordsOf b → offendingPart n i b d ≡ inModel (bytesFrom (model.recordBytes * i) model.recordBytes)
   unfolding offendingPart namesModel namesRule isWhole recordPart recordsOf
   rule-part from to l =
       rw (
@@ -29,7 +31,7 @@ module _ (n i : ℕ) (b d : List ℕ) where
         lt-ltb i (length b / 10) l,
       )
 
-  bound-part : 21 ≤ n → n ≤ 27 → i < length d / 8 → offendingPart n i b d ≡ inDelivery (part (8 * i) 8)
+  bound-part : 21 ≤ n → n ≤ 27 → i < length d / delivery.recordBytes → offendingPart n i b d ≡ inDelivery (bytesFrom (delivery.recordBytes * i) delivery.recordBytes)
   unfolding offendingPart namesModel namesRule namesBound isWhole recordPart
   bound-part from to l =
       rw (
@@ -39,19 +41,19 @@ module _ (n i : ℕ) (b d : List ℕ) where
         lt-leb n 14 (omega arith),
         le-leb 21 n from,
         le-leb n 27 to,
-        lt-ltb i (length d / 8) l,
+        lt-ltb i (length d / delivery.recordBytes) l,
       )
 
 -- Of a model that its own check refuses, beside any delivery.
 pub offending-of-model : (b d : List ℕ) (r : Reason) (i : ℕ) (k : ℤ) → modelVerdict b ≡ Refused r i k → 11 ≤ numberOf r → numberOf r ≤ 14
-    → offendingPart (numberOf r) i b d ≡ inModel (part (10 * i) 10)
+    → offendingPart (numberOf r) i b d ≡ inModel (bytesFrom (model.recordBytes * i) model.recordBytes)
 offending-of-model b d r i k e from to = rule-part (numberOf r) i b d from to (model-record b r i k e from to)
 
 -- Of a delivery checked with its model.
 pub offending-rule : (b d : List ℕ) (r : Reason) (i : ℕ) (k : ℤ) → verdict b d ≡ Refused r i k → 11 ≤ numberOf r → numberOf r ≤ 14
-    → offendingPart (numberOf r) i b d ≡ inModel (part (10 * i) 10)
+    → offendingPart (numberOf r) i b d ≡ inModel (bytesFrom (model.recordBytes * i) model.recordBytes)
 offending-rule b d r i k e from to = rule-part (numberOf r) i b d from to (rule-record b d r i k e from to)
 
 pub offending-bound : (b d : List ℕ) (r : Reason) (i : ℕ) (k : ℤ) → verdict b d ≡ Refused r i k → 21 ≤ numberOf r → numberOf r ≤ 27
-    → offendingPart (numberOf r) i b d ≡ inDelivery (part (8 * i) 8)
+    → offendingPart (numberOf r) i b d ≡ inDelivery (bytesFrom (delivery.recordBytes * i) delivery.recordBytes)
 offending-bound b d r i k e from to = bound-part (numberOf r) i b d from to (bound-record b d r i k e from to)

@@ -3,7 +3,7 @@ use Prim.Native.Nat.{ℕ}
 use mathlib.Core.List.{List, [], _∷_, map}
 use lib.ListN.{replicate}
 use Rattle.lent.specs.declared.record.Kind.the-variants.{Model, Delivery}
-use Rattle.lent.specs.Parts.{part, nothing, nextAfter, Offending, inModel, inDelivery, offendingPart}
+use Rattle.lent.specs.Parts.{bytesFrom, nothing, nextAfter, Offending, inModel, inDelivery, offendingPart}
 
 -- A refusal's number and place, and the part that is due.
 pub record Case : Type 0 where
@@ -25,18 +25,18 @@ abbrev pub cases : List Case
 cases =
     case 10 0 (inModel nothing)
     ∷ case 15 1 (inModel nothing)
-    ∷ case 11 0 (inModel (part 0 10))
-    ∷ case 12 1 (inModel (part 10 10))
-    ∷ case 13 1 (inModel (part 10 10))
-    ∷ case 14 1 (inModel (part 10 10))
+    ∷ case 11 0 (inModel (bytesFrom 0 10))
+    ∷ case 12 1 (inModel (bytesFrom 10 10))
+    ∷ case 13 1 (inModel (bytesFrom 10 10))
+    ∷ case 14 1 (inModel (bytesFrom 10 10))
     ∷ case 14 2 (inDelivery nothing)
-    ∷ case 21 0 (inDelivery (part 0 8))
-    ∷ case 22 1 (inDelivery (part 8 8))
-    ∷ case 23 1 (inDelivery (part 8 8))
-    ∷ case 24 1 (inDelivery (part 8 8))
-    ∷ case 25 1 (inDelivery (part 8 8))
-    ∷ case 26 1 (inDelivery (part 8 8))
-    ∷ case 27 1 (inDelivery (part 8 8))
+    ∷ case 21 0 (inDelivery (bytesFrom 0 8))
+    ∷ case 22 1 (inDelivery (bytesFrom 8 8))
+    ∷ case 23 1 (inDelivery (bytesFrom 8 8))
+    ∷ case 24 1 (inDelivery (bytesFrom 8 8))
+    ∷ case 25 1 (inDelivery (bytesFrom 8 8))
+    ∷ case 26 1 (inDelivery (bytesFrom 8 8))
+    ∷ case 27 1 (inDelivery (bytesFrom 8 8))
     ∷ case 27 2 (inDelivery nothing)
     ∷ case 0 0 (inDelivery nothing)
     ∷ case 9 0 (inDelivery nothing)

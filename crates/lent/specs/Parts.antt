@@ -15,12 +15,12 @@ pub record Part : Type 0 where
   pub start : ℕ
   pub count : ℕ
 
-abbrev pub part : ℕ → ℕ → Part
-part a n = record { start = a; count = n }
+abbrev pub bytesFrom : ℕ → ℕ → Part
+bytesFrom a n = record { start = a; count = n }
 
 -- The empty part at the start of a file.
 abbrev pub nothing : Part
-nothing = part 0 0
+nothing = bytesFrom 0 0
 
 -- Bytes that lie in memory: the block, the offset in it, and the bytes. Empty parts are told apart by where they start.
 pub record Lying {A : Type 0} (block : A) (offset : ℕ) (bytes : List ℕ) (x : Part) (block′ : A) (offset′ : ℕ) (bytes′ : List ℕ) : Type 0 where
@@ -39,7 +39,7 @@ isWhole k b i = ltb i (length b / sizeOf k)
 
 -- Record i, or nothing where it is not whole.
 unfoldable pub recordPart : Kind → List ℕ → ℕ → Part
-recordPart k b i = cond (isWhole k b i) (part (sizeOf k * i) (sizeOf k)) nothing
+recordPart k b i = cond (isWhole k b i) (bytesFrom (sizeOf k * i) (sizeOf k)) nothing
 
 -- The number of the record after record i: the same where record i is not whole, since the walk is at its end.
 unfoldable pub nextAfter : Kind → List ℕ → ℕ → ℕ

@@ -1,4 +1,5 @@
--- The format of a model file and its limits (document 01, "Models"): each number stands here once, and under the same name in src/format.rt.
+-- The format of a model file and its limits (document 01, "Models"): each number stands here once, and
+-- those that the code uses under the same name in src/format.rt. proofs/Limits.antt holds them to each other.
 use Prim.Native.Nat.{ℕ}
 
 -- A record is 10 bytes: p, Z, q, L, Y and X of one byte each, and the weight of four, at these bytes of it.

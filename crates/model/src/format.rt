@@ -1,4 +1,5 @@
-// The format of a model file and its limits, each under the name that specs/Format.antt gives it.
+// The format of a model file and its limits, each under the name that specs/Format.antt gives it; and what weights count, under the name of
+// specs/Units.antt of crate ppda.
 
 // The bytes of a record, and where each field stands in it.
 pub const RECORD_BYTES: usize = 10;

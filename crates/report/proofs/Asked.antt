@@ -20,7 +20,7 @@ use Rattle.register.specs.Questions.{upperIn, lowerIn, marginIn, liveIn}
 use Rattle.history.specs.Calls.{Call, Reply, live}
 use Rattle.history.specs.Run.{answerReply, replyOf}
 use Rattle.report.specs.declared.Printout.{Printout}
-use Rattle.report.specs.Walks.{room, Holds, linesWith}
+use Rattle.report.specs.Walks.{room, HoldsText, linesWith}
 use Rattle.gaps.specs.Gaps.{gapOf, Gaps}
 use Rattle.lines.specs.Lines.{tableLine, marginLine, chanceLine, saysLive}
 use Rattle.report.specs.Printed.{liveEntries, chanceOf, chanceAt, chanceLines, stepsLines, linesBy, acceptedLines}
@@ -46,7 +46,7 @@ pub chance-by-number : (ask : Call → Reply) (l : List ℕ) (s g e : ℕ) {t : 
 chance-by-number ask l s g e is = is ∙ rw entry-number
 
 -- A printout whose text starts at byte 0 of a buffer.
-pub put-holds : {a t : List ℕ} {r : Printout} → length a ≡ room → Put a (r .bytes) 0 (r .length) t → r .length ≤ room → Holds r t
+pub put-holds : {a t : List ℕ} {r : Printout} → length a ≡ room → Put a (r .bytes) 0 (r .length) t → r .length ≤ room → HoldsText r t
 put-holds size p fits = record { size = p .size ∙ size; fits = fits; holds = p .puts }
 
 -- ---- all lines

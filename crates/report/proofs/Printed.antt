@@ -22,7 +22,7 @@ use Rattle.register.specs.declared.Received.{Received}
 use Rattle.register.specs.Filing.{cleared, fileModel, fileDelivery}
 use Rattle.history.specs.Calls as calls
 use Rattle.history.specs.Plain.{lastModel, lastDelivery}
-use Rattle.history.specs.Run.{modelReply, markReply, deliveryReply, after, replyOf, registerAfter, replyTo, history}
+use Rattle.history.specs.Run.{modelReply, markReply, deliveryReply, afterCall, replyOf, registerAfter, replyTo, history}
 use Rattle.history.proofs.Plain.{right-pair}
 use Rattle.lines.specs.Lines.{refusedLine}
 use Rattle.report.specs.Walks.{HoldsModel, refusalOf}
@@ -83,7 +83,7 @@ module _ {r : Register} (b d : List ℕ) {received : Received} (held : HoldsMode
   model-reply = rw (held .accepted)
 
   delivery-reply : replyTo (calls.fileModel b ∷ []) (calls.fileDelivery d) ≡ deliveryReply (received .outcome) (received .mark)
-  unfolding replyOf registerAfter after
+  unfolding replyOf registerAfter afterCall
   delivery-reply = rw (is, held .holding)
 
   pub delivery-refused : {t : Bool} → t ≡ isRefused (received .outcome) → t ≡ true → refusalOf (received .outcome) ≡ printed b d
@@ -96,7 +96,7 @@ module _ {r : Register} (b d : List ℕ) {received : Received} (held : HoldsMode
     taken = not-refused (received .outcome) (sym said ∙ passed)
 
     kept : registerAfter (calls.fileDelivery d ∷ calls.fileModel b ∷ []) ≡ received .register
-    unfolding registerAfter after
+    unfolding registerAfter afterCall
     kept = rw (is, held .holding)
 
     pub lines-of-held : acceptedLines (replyOf (received .register)) b d ≡ printed b d

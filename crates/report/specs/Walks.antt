@@ -22,7 +22,7 @@ abbrev pub room : ℕ
 room = tableRoom + marginRoom + mostEntries * chanceRoom + mostRows * stepsRoom
 
 -- The first `length` bytes are the text. What stands beyond them is free.
-pub record Holds (r : Printout) (text : List ℕ) : Type 0 where
+pub record HoldsText (r : Printout) (text : List ℕ) : Type 0 where
   pub size : length (r .bytes) ≡ room
   pub fits : r .length ≤ room
   pub holds : take (r .length) (r .bytes) ≡ text

@@ -32,7 +32,7 @@ ghost use Rattle.certificate.specs.Verdict.{verdict};
 ghost use Rattle.history.specs.Run.{replyOf};
 ghost use Rattle.model.specs.Sizes.{Fits};
 ghost use Rattle.report.specs.Printed.{acceptedLines, printed};
-ghost use Rattle.report.specs.Walks.{room, Holds, linesWith, HoldsModel, refusalOf};
+ghost use Rattle.report.specs.Walks.{room, HoldsText, linesWith, HoldsModel, refusalOf};
 ghost use lib.ListN.{length};
 
 // The bytes of a buffer: no report has more lines, nor longer ones.
@@ -53,7 +53,7 @@ fn blank() -> [u8; ROOM]
 
 // The line of a refusal; nothing for an accepted file.
 fn refusal(outcome: Outcome) -> Printout
-    ensures { λ r. ⌜ Holds r (refusalOf outcome) ⌝ }
+    ensures { λ r. ⌜ HoldsText r (refusalOf outcome) ⌝ }
 {
     let mut bytes = blank();
     let Outcome::Refused {
@@ -71,7 +71,7 @@ fn refusal(outcome: Outcome) -> Printout
 // What a register shows, where u − f(u) of the entries and the model's sizes are at hand.
 fn shown_with(register: Register, rules: usize, gaps: &[u64; MOST_ENTRIES], n: Sizes) -> Printout
     requires { ⌜ Fits (n .states) (n .symbols) ⌝ }
-    ensures { λ r. ⌜ Holds r (linesWith register rules (now (gaps .entry)) n) ⌝ }
+    ensures { λ r. ⌜ HoldsText r (linesWith register rules (now (gaps .entry)) n) ⌝ }
 {
     let mut bytes = blank();
     let live = live_entries(register, n);
@@ -85,7 +85,7 @@ fn shown_with(register: Register, rules: usize, gaps: &[u64; MOST_ENTRIES], n: S
 // What a register that holds the two files shows.
 fn shown(register: Register, model: &[u8], delivery: &[u8]) -> Printout
     requires { ⌜ verdict (now model) (now delivery) ≡ Accepted ⌝ }
-    ensures { λ r. ⌜ Holds r (acceptedLines (replyOf register) (now (model .entry)) (now (delivery .entry))) ⌝ }
+    ensures { λ r. ⌜ HoldsText r (acceptedLines (replyOf register) (now (model .entry)) (now (delivery .entry))) ⌝ }
 {
     let gaps = gaps_of(model, delivery);
     let n = sizes_of(model);
@@ -95,7 +95,7 @@ fn shown(register: Register, model: &[u8], delivery: &[u8]) -> Printout
 // What is printed of any delivery, where a register holds the model.
 fn delivered(holding: Register, model: &[u8], delivery: &[u8]) -> Printout
     requires { ⌜ HoldsModel holding (now model) ⌝ }
-    ensures { λ r. ⌜ Holds r (printed (now (model .entry)) (now (delivery .entry))) ⌝ }
+    ensures { λ r. ⌜ HoldsText r (printed (now (model .entry)) (now (delivery .entry))) ⌝ }
 {
     let received = holding.file_delivery(delivery);
     let outcome = received.outcome;
@@ -108,7 +108,7 @@ fn delivered(holding: Register, model: &[u8], delivery: &[u8]) -> Printout
 
 // What is printed of any two files.
 pub fn of_files(model: &[u8], delivery: &[u8]) -> Printout
-    ensures { λ r. ⌜ Holds r (printed (now (model .entry)) (now (delivery .entry))) ⌝ }
+    ensures { λ r. ⌜ HoldsText r (printed (now (model .entry)) (now (delivery .entry))) ⌝ }
 {
     let filed = Register::empty().file_model(model);
     let outcome = filed.outcome;

@@ -1,7 +1,7 @@
 -- `delivered`: a refusal is printed; where there is none, the register shows its files, and they are accepted.
 use mathlib.Core.Path.{subst}
 use borrow.Author.Needs.{needs}
-use Rattle.report.specs.Walks.{Holds}
+use Rattle.report.specs.Walks.{HoldsText}
 use Rattle.report.proofs.Printed.{delivery-refused, lines-of-held, held-accepted}
 use Rattle.report.proofs.delivered.Statement.{statement}
 use Rattle.report.proofs.delivered.Tie as tie
@@ -21,7 +21,7 @@ returns c =
     let received = said .before in
     let held = received .before .before .before .pre in
     let line = delivery-refused _ _ held (received .file-delivery .ensures) (said .is-refused .ensures) (c .before .if1 .taken) in
-    subst (Holds _) line (c .refusal .ensures)
+    subst (HoldsText _) line (c .refusal .ensures)
 
 shown-requires : tie.Need-shown-requires
 shown-requires c κs =
@@ -35,7 +35,7 @@ returns-2 c =
     let said = else .before in
     let received = said .before in
     let lines = lines-of-held _ _ (received .before .before .before .pre) (received .file-delivery .ensures) (said .is-refused .ensures) (else .if1 .left) in
-    subst (Holds _) lines (c .shown .ensures)
+    subst (HoldsText _) lines (c .shown .ensures)
 
 pub delivered-spec : {M : Type 1} → statement M
 delivered-spec =

@@ -1,7 +1,7 @@
 -- `of_files`: a refused model is printed; one that is accepted is held, and the delivery decides.
 use mathlib.Core.Path.{subst}
 use borrow.Author.Needs.{needs}
-use Rattle.report.specs.Walks.{Holds}
+use Rattle.report.specs.Walks.{HoldsText}
 use Rattle.report.proofs.Printed.{model-refused, model-held}
 use Rattle.report.proofs.of_files.Statement.{statement}
 use Rattle.report.proofs.of_files.Tie as tie
@@ -23,7 +23,7 @@ returns c =
     let said = c .before .before in
     let filed = said .before in
     let line = model-refused _ (filed .before .empty .ensures) (filed .file-model .ensures) _ (said .is-refused .ensures) (c .before .if1 .taken) in
-    subst (Holds _) line (c .refusal .ensures)
+    subst (HoldsText _) line (c .refusal .ensures)
 
 delivered-requires : tie.Need-delivered-requires
 delivered-requires c κs =

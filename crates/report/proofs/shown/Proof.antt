@@ -4,7 +4,7 @@ use denote.Ref.{now}
 use borrow.Author.Needs.{needs}
 use Rattle.model.proofs.Accepted.{sized-fits}
 use Rattle.certificate.proofs.Steps.{sized-by-verdict}
-use Rattle.report.specs.Walks.{Holds}
+use Rattle.report.specs.Walks.{HoldsText}
 use Rattle.report.proofs.Asked.{lines-said}
 use Rattle.report.proofs.shown.Statement.{statement}
 use Rattle.report.proofs.shown.Tie as tie
@@ -31,7 +31,7 @@ returns c =
     let start = gaps .before .before .before in
     let is = sizes .sizes-of .ensures .0 in
     let fits = sized-fits (sized-by-verdict _ (start .pre) is) in
-    subst (Holds _) (lines-said (start .args .register) _ _ (gaps .gaps-of .result) is fits (records .records .ensures) (gaps .gaps-of .ensures))
+    subst (HoldsText _) (lines-said (start .args .register) _ _ (gaps .gaps-of .result) is fits (records .records .ensures) (gaps .gaps-of .ensures))
     (c .shown-with .ensures)
 
 pub shown-spec : {M : Type 1} → statement M
