@@ -12,8 +12,8 @@ use borrow.Author.Tests.{ltb-true, ltb-false, leb-true, leb-false, eqb-true, not
 use Rattle.ppda.specs.Units.{chanceUnit, sumUnit}
 use Rattle.outcome.specs.declared.Reason.{Reason}
 use Rattle.outcome.specs.declared.Outcome.the-variants.{Accepted, Refused}
-use Rattle.walks.specs.Lists.{joinTo}
-use Rattle.outcome.specs.Tests.{Test, plain, refusal, first, each, Passed, FirstFailure}
+use Rattle.outcome.specs.Tests.{Test, plain, refusal, first, Passed, FirstFailure}
+use Rattle.walks.specs.Lists.{each}
 use Rattle.outcome.proofs.Exactly.{not-lt-exactly, not-exactly, and-fails, or-fails}
 use Rattle.outcome.proofs.Tests.{accepted-exactly, refused-exactly, first-failure, first-stands, passed-append}
 use Rattle.walks.specs.Sums.{In}
@@ -34,10 +34,10 @@ use Rattle.delivery.specs.declared.shape.Block.the-variants.{Uppers, Lowers, Me
 use Rattle.delivery.specs.declared.shape.Shape.{Shape}
 use Rattle.delivery.specs.declared.shape.Shaped.{Shaped}
 use Rattle.delivery.specs.declared.shape.Shaped.the-variants.{Of, Unknown}
-use Rattle.walks.specs.Order.{rowsIn, AtEntries}
+use Rattle.walks.specs.Order.{rowsIn, AtEntries, eachEntry, eachRow}
 use Rattle.delivery.specs.Shapes.{hasLowers, hasMeans, shapeOf}
 use Rattle.delivery.specs.Numbers.{uppersOf, lowersOf, meansOf}
-use Rattle.delivery.specs.Layout.{eachEntry, eachRow, onlyIf, recordTests, upperRecords, lowerRecords, meanRecords, layoutTests}
+use Rattle.delivery.specs.Layout.{onlyIf, recordTests, upperRecords, lowerRecords, meanRecords, layoutTests}
 use Rattle.delivery.proofs.Says.{Says, says-append, says-only, says-entries, says-rows, says-one, due-exactly, range-exactly, AtRecords, says-layout}
 use Rattle.inequalities.specs.Inequalities.{deadTest, upperTest, belowTest, lowerTest, meanTest, deadTests, upperTests, belowTests, lowerTests, meanTests}
 use Rattle.certificate.specs.Verdict.{numberTests, shapedTests, deliveryTests, verdict}
@@ -271,7 +271,7 @@ short-only true r = r
 short-only false r = short-none
 
 short-each : (n : ℕ) {h : ℕ → List Test} → ((i : ℕ) → Short (h i)) → Short (each n h)
-unfolding each joinTo
+unfolding each
 short-each zero r = short-none
 short-each (suc n) r = short-append (short-each n r) (r n)
 

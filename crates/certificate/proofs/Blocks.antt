@@ -13,18 +13,18 @@ use borrow.Author.Tests.{ltb-true, ltb-false}
 use Rattle.ppda.specs.Units.{chanceUnit, stepUnit}
 use Rattle.delivery.specs.Format.{recordBytes, valueByte}
 use Rattle.words.specs.Words.{wordAt}
-use Rattle.outcome.specs.Tests.{Test, each}
-use Rattle.outcome.proofs.Tests.{each-cong}
+use Rattle.outcome.specs.Tests.{Test}
+use Rattle.walks.specs.Lists.{each}
+use Rattle.walks.proofs.Lists.{each-cong}
 use Rattle.ppda.specs.Rules.{Rule, IsModel}
 use Rattle.ppda.specs.Equations.{Vector, RowVector, f, SameRows, Same}
 use Rattle.ppda.specs.Live.{isLive}
 use Rattle.model.specs.Rules.{rulesOf}
 use Rattle.delivery.specs.Records.{valueAt}
-use Rattle.walks.specs.Order.{entriesIn, entryAt, rowAt}
+use Rattle.walks.specs.Order.{entriesIn, entryAt, rowAt, eachEntry, eachRow}
 use Rattle.delivery.specs.Numbers.{uppersOf, rowsOfBlock}
-use Rattle.delivery.specs.Layout.{eachEntry, eachRow}
 use Rattle.delivery.specs.Walks.{Within}
-use Rattle.delivery.proofs.Walks.{entries-by-number}
+use Rattle.walks.proofs.Orders.{entries-by-number}
 use Rattle.live.specs.Exits.{exitMarks}
 use Rattle.walks.proofs.Places.{entry-below}
 use Rattle.ppda.proofs.Vectors.{f-same, mean-side-same}

@@ -28,8 +28,8 @@ use Rattle.delivery.specs.declared.shape.Shape.the-variants.{U, UL, UR, ULR}
 use Rattle.delivery.specs.declared.shape.Shaped.{Shaped}
 use Rattle.delivery.specs.declared.shape.Shaped.the-variants.{Of, Unknown}
 use Rattle.delivery.specs.Shapes.{hasLowers, hasMeans, meansFrom, recordsIn, shapeOf}
-use Rattle.walks.specs.Order.{entriesIn, entryAt, rowAt}
-use Rattle.delivery.specs.Layout.{eachEntry, eachRow, onlyIf, recordTests, upperRecords, lowerRecords, meanRecords, layoutTests}
+use Rattle.walks.specs.Order.{entriesIn, entryAt, rowAt, eachEntry, eachRow}
+use Rattle.delivery.specs.Layout.{onlyIf, recordTests, upperRecords, lowerRecords, meanRecords, layoutTests}
 use Rattle.delivery.proofs.Shapes.{shape-long, uppers-fit, lowers-fit, means-fit}
 use Rattle.inequalities.specs.Inequalities.{deadTest, upperTest, belowTest, lowerTest, meanTest, deadTests, upperTests, belowTests, lowerTests, meanTests}
 use Rattle.certificate.specs.Verdict.{numberTests, shapedTests, deliveryTests, verdict}

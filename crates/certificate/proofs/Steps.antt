@@ -14,7 +14,8 @@ use Rattle.outcome.specs.declared.Reason.{Reason}
 use Rattle.outcome.specs.declared.Reason.the-variants.{NoShape}
 use Rattle.outcome.specs.declared.Outcome.{Outcome}
 use Rattle.outcome.specs.declared.Outcome.the-variants.{Accepted, Refused}
-use Rattle.outcome.specs.Tests.{Test, first, each}
+use Rattle.outcome.specs.Tests.{Test, first}
+use Rattle.walks.specs.Lists.{each}
 use Rattle.outcome.proofs.Tests.{first-empty, first-refused, first-rest}
 use Rattle.ppda.specs.Live.{alive}
 use Rattle.model.specs.declared.sizes.Sizes.{Sizes}
@@ -26,9 +27,9 @@ use Rattle.delivery.specs.declared.shape.Shape.{Shape}
 use Rattle.delivery.specs.declared.shape.Shaped.{Shaped}
 use Rattle.delivery.specs.declared.shape.Shaped.the-variants.{Of, Unknown}
 use Rattle.delivery.specs.Shapes.{hasLowers, hasMeans, meansFrom, shapeOf}
-use Rattle.walks.specs.Order.{entriesIn, rowsIn}
+use Rattle.walks.specs.Order.{entriesIn, rowsIn, eachEntry, eachRow}
 use Rattle.delivery.specs.Numbers.{uppersOf}
-use Rattle.delivery.specs.Layout.{eachEntry, eachRow, onlyIf, layoutTests}
+use Rattle.delivery.specs.Layout.{onlyIf, layoutTests}
 use Rattle.delivery.specs.Walks.{Within}
 use Rattle.live.specs.Exits.{ExitsOf, exitMarks}
 use Rattle.model.specs.Accepted.{Sized}

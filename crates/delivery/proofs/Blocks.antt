@@ -8,15 +8,16 @@ use mathlib.Core.Path.{_≡_, refl, sym, ap, _∙_}
 use lib.IntN.{pos}
 use Rattle.outcome.specs.declared.Outcome.the-variants.{Accepted, Refused}
 use Rattle.outcome.specs.declared.Reason.the-variants.{NotDue, ValueOutOfRange}
-use Rattle.walks.specs.Lists.{joinTo}
-use Rattle.outcome.specs.Tests.{Test, first, each}
-use Rattle.outcome.proofs.Tests.{first-empty, first-after, first-stands, each-cong}
+use Rattle.outcome.specs.Tests.{Test, first}
+use Rattle.walks.specs.Lists.{each}
+use Rattle.outcome.proofs.Tests.{first-empty, first-after, first-stands}
+use Rattle.walks.proofs.Lists.{each-cong}
 use Rattle.delivery.specs.declared.shape.Block.{Block}
 use Rattle.delivery.specs.declared.shape.Block.the-variants.{Uppers, Lowers, Means}
 use Rattle.delivery.specs.declared.shape.Shape.{Shape}
 use Rattle.delivery.specs.Shapes.{hasLowers, hasMeans, meansFrom}
-use Rattle.walks.specs.Order.{entriesIn, entryAt}
-use Rattle.delivery.specs.Layout.{eachEntry, eachRow, onlyIf, isDue, inRange, recordTests, upperRecords, lowerRecords, meanRecords, layoutTests}
+use Rattle.walks.specs.Order.{entriesIn, entryAt, eachEntry, eachRow}
+use Rattle.delivery.specs.Layout.{onlyIf, isDue, inRange, recordTests, upperRecords, lowerRecords, meanRecords, layoutTests}
 use Rattle.delivery.specs.Walks.{stateOfBlock}
 
 -- The outcome of a record by its tests, in their order.
@@ -53,7 +54,7 @@ unfolding lowerRecords
 lowers-walked s g d {from} e = entries-walked s g from d Lowers (λ i. entriesIn s g + i) (λ i. ap (λ k. k + i) (sym e))
 
 each-one : (h : ℕ → List Test) → each 1 h ≡ h 0
-unfolding each joinTo
+unfolding each
 each-one h = refl
 
 -- A row of mean steps is one record.

@@ -12,7 +12,7 @@ use lib.Seq.{getD-append-add, take-all, take-add}
 use Rattle.words.specs.Words.{Bytes}
 use Rattle.words.proofs.Words.{bytes-none, bytes-cons, bytes-append, four-are-bytes, part-next, part-more, word-by, bytes-make, made-word}
 use Rattle.ppda.specs.Equations.{Vector, RowVector}
-use Rattle.walks.specs.Lists.{joinTo}
+use Rattle.walks.specs.Lists.{each}
 use Rattle.walks.proofs.Places.{row-below, entry-below}
 use Rattle.outcome.specs.declared.Outcome.the-variants.{Accepted}
 use Rattle.outcome.specs.Tests.{first}
@@ -26,31 +26,31 @@ use Rattle.delivery.specs.declared.shape.Shaped.the-variants.{Of}
 use Rattle.delivery.specs.Format.{recordBytes, valueByte}
 use Rattle.delivery.specs.Records.{byteOf, kindAt, stateAt, symbolAt, exitAt, valueAt, kindOf, leastOf, mostOf}
 use Rattle.delivery.specs.Shapes.{hasLowers, hasMeans, meansFrom, recordsIn, shapeOf}
-use Rattle.walks.specs.Order.{entriesIn, rowsIn, entryAt, rowAt}
+use Rattle.walks.specs.Order.{entriesIn, rowsIn, entryAt, rowAt, eachRow, eachEntry}
 use Rattle.delivery.specs.Numbers.{uppersOf, lowersOf, meansOf}
 use Rattle.delivery.specs.Layout.{isDue, inRange, layoutTests}
 use Rattle.delivery.proofs.Shapes.{one-state, shape-long, shape-found, one-state-lowers, one-state-means, one-state-alone, one-state-both, uppers-fit, lowers-fit, means-fit}
 use Rattle.delivery.proofs.Says.{AtRecords, says-record, says-layout, due-exactly, range-exactly}
 use Rattle.delivery.specs.Made.{deliveryRecord, entryRecords, rowRecords, madeDelivery, NumbersFit}
-use Rattle.walks.proofs.Lists.{length-joined, getD-joined}
+use Rattle.walks.proofs.Lists.{length-each, getD-each}
 
 -- ---- lists of one length, one after the other
 
 module _ (w : ℕ) (h : ℕ → List ℕ) where
   -- Parts of a file that follow each other are one part of it.
-  joined-part : (b : List ℕ) (from n : ℕ) → ((i : ℕ) → i < n → h i ≡ take w (drop (from + i * w) b))
-      → joinTo h n ≡ take (n * w) (drop from b)
-  unfolding joinTo
-  joined-part b from zero part = ap (λ k. take k (drop from b)) (sym (zero-mul w))
-  joined-part b from (suc n) part =
+  parts-joined : (b : List ℕ) (from n : ℕ) → ((i : ℕ) → i < n → h i ≡ take w (drop (from + i * w) b))
+      → each n h ≡ take (n * w) (drop from b)
+  unfolding each
+  parts-joined b from zero part = ap (λ k. take k (drop from b)) (sym (zero-mul w))
+  parts-joined b from (suc n) part =
       let e : n * w + w ≡ suc n * w = omega arith in
-      ap₂ _++_ (joined-part b from n (λ i l. part i (omega arith))) (part n (omega arith))
+      ap₂ _++_ (parts-joined b from n (λ i l. part i (omega arith))) (part n (omega arith))
       ∙ sym (part-more b from (n * w) w) ∙ ap (λ k. take k (drop from b)) e
 
-bytes-joined : (h : ℕ → List ℕ) (n : ℕ) → ((i : ℕ) → i < n → Bytes (h i)) → Bytes (joinTo h n)
-unfolding joinTo
-bytes-joined h zero bytes = bytes-none
-bytes-joined h (suc n) bytes = bytes-append (joinTo h n) (bytes-joined h n (λ i l. bytes i (omega arith))) (bytes n (omega arith))
+bytes-each : (h : ℕ → List ℕ) (n : ℕ) → ((i : ℕ) → i < n → Bytes (h i)) → Bytes (each n h)
+unfolding each
+bytes-each h zero bytes = bytes-none
+bytes-each h (suc n) bytes = bytes-append (each n h) (bytes-each h n (λ i l. bytes i (omega arith))) (bytes n (omega arith))
 
 -- ---- where records stand
 
@@ -74,13 +74,13 @@ stands-right x y n {i} h st =
 -- The block of a vector.
 module _ (s g : ℕ) (k : Block) (v : Vector) where
   entries-long : length (entryRecords s g k v) ≡ recordBytes * entriesIn s g
-  unfolding entryRecords
+  unfolding entryRecords eachEntry
   entries-long =
-      length-joined (g * (s * recordBytes)) _ s (λ p hp. length-joined (s * recordBytes) _ g (λ z hz. length-joined 8 _ s (λ q hq. refl)))
+      length-each (g * (s * recordBytes)) _ s (λ p hp. length-each (s * recordBytes) _ g (λ z hz. length-each 8 _ s (λ q hq. refl)))
       ∙ omega arith
 
   entry-stands : (p z q : ℕ) → p < s → z < g → q < s → Stands (entryRecords s g k v) (entryAt s g p z q) k p z q (v p z q)
-  unfolding entryRecords
+  unfolding entryRecords eachEntry
   entry-stands p z q hp hz hq = record { same = same }
     where
       same : (j : ℕ) → j < recordBytes
@@ -90,18 +90,18 @@ module _ (s g : ℕ) (k : Block) (v : Vector) where
           let b : z * (s * recordBytes) + (q * recordBytes + j) < g * (s * recordBytes) = row-below g (s * recordBytes) z (q * recordBytes + j) hz a in
           let e : recordBytes * entryAt s g p z q + j ≡ p * (g * (s * recordBytes)) + (z * (s * recordBytes) + (q * recordBytes + j)) = omega arith in
           ap (λ i. getD (entryRecords s g k v) i 0) e
-          ∙ getD-joined (g * (s * recordBytes)) _ s (λ p hp. length-joined (s * recordBytes) _ g (λ z hz. length-joined 8 _ s (λ q hq. refl))) p _ hp b
-          ∙ getD-joined (s * recordBytes) _ g (λ z hz. length-joined 8 _ s (λ q hq. refl)) z _ hz a
-          ∙ getD-joined 8 _ s (λ q hq. refl) q j hq l
+          ∙ getD-each (g * (s * recordBytes)) _ s (λ p hp. length-each (s * recordBytes) _ g (λ z hz. length-each 8 _ s (λ q hq. refl))) p _ hp b
+          ∙ getD-each (s * recordBytes) _ g (λ z hz. length-each 8 _ s (λ q hq. refl)) z _ hz a
+          ∙ getD-each 8 _ s (λ q hq. refl) q j hq l
 
 -- The block of mean steps.
 module _ (s g : ℕ) (r : RowVector) where
   means-long : length (rowRecords s g r) ≡ recordBytes * rowsIn s g
-  unfolding rowRecords
-  means-long = length-joined (g * recordBytes) _ s (λ p hp. length-joined 8 _ g (λ z hz. refl)) ∙ omega arith
+  unfolding rowRecords eachRow
+  means-long = length-each (g * recordBytes) _ s (λ p hp. length-each 8 _ g (λ z hz. refl)) ∙ omega arith
 
   row-stands : (p z : ℕ) → p < s → z < g → Stands (rowRecords s g r) (rowAt g p z) Means p z 0 (r p z)
-  unfolding rowRecords
+  unfolding rowRecords eachRow
   row-stands p z hp hz = record { same = same }
     where
       same : (j : ℕ) → j < recordBytes → getD (rowRecords s g r) (recordBytes * rowAt g p z + j) 0 ≡ getD (deliveryRecord (kindOf Means) p z 0 (r p z)) j 0
@@ -109,8 +109,8 @@ module _ (s g : ℕ) (r : RowVector) where
           let a : z * recordBytes + j < g * recordBytes = row-below g 8 z j hz l in
           let e : recordBytes * rowAt g p z + j ≡ p * (g * recordBytes) + (z * recordBytes + j) = omega arith in
           ap (λ i. getD (rowRecords s g r) i 0) e
-          ∙ getD-joined (g * recordBytes) _ s (λ p hp. length-joined 8 _ g (λ z hz. refl)) p _ hp a
-          ∙ getD-joined 8 _ g (λ z hz. refl) z j hz l
+          ∙ getD-each (g * recordBytes) _ s (λ p hp. length-each 8 _ g (λ z hz. refl)) p _ hp a
+          ∙ getD-each 8 _ g (λ z hz. refl) z j hz l
 
 -- How many bytes the lowers and the mean steps of a shape have.
 abbrev lowerBytes : ℕ → ℕ → Shape → ℕ
@@ -289,19 +289,19 @@ bytes-if true bytes = bytes
 bytes-if false bytes = bytes-none
 
 pub bytes-of-made : (s g : ℕ) (h : Shape) (u l : Vector) (r : RowVector) → s ≤ 256 → g ≤ 256 → Bytes (madeDelivery s g h u l r)
-unfolding madeDelivery entryRecords rowRecords
+unfolding madeDelivery entryRecords eachEntry rowRecords eachRow
 bytes-of-made s g h u l r hs hg =
     bytes-append (entryRecords s g Uppers u) (block Uppers u)
     (bytes-append (cond (hasLowers h) (entryRecords s g Lowers l) []) (bytes-if (hasLowers h) (block Lowers l)) (bytes-if (hasMeans h) rows))
   where
     block : (k : Block) (v : Vector) → Bytes (entryRecords s g k v)
     block k v =
-        bytes-joined _ s (λ p hp. bytes-joined _ g (λ z hz. bytes-joined _ s (λ q hq.
+        bytes-each _ s (λ p hp. bytes-each _ g (λ z hz. bytes-each _ s (λ q hq.
         record-bytes k p z q (v p z q) (omega arith) (omega arith) (omega arith))))
 
     rows : Bytes (rowRecords s g r)
     rows =
-        bytes-joined _ s (λ p hp. bytes-joined _ g (λ z hz. record-bytes Means p z 0 (r p z) (omega arith) (omega arith) (omega arith)))
+        bytes-each _ s (λ p hp. bytes-each _ g (λ z hz. record-bytes Means p z 0 (r p z) (omega arith) (omega arith) (omega arith)))
 
 -- ---- making what was read
 
@@ -335,11 +335,11 @@ module _ (d : List ℕ) (bytes : Bytes d) where
       → ((p z q : ℕ) → p < s → z < g → q < s
       → (isDue d (from + entryAt s g p z q) k p z q ≡ true) × (v p z q ≡ valueAt d (from + entryAt s g p z q)))
       → entryRecords s g k v ≡ take (recordBytes * entriesIn s g) (drop (recordBytes * from) d)
-  unfolding entryRecords
+  unfolding entryRecords eachEntry
   block-back s g k v from room due =
-      joined-part (g * (s * recordBytes)) _ d (recordBytes * from) s (λ p hp.
-      joined-part (s * recordBytes) _ d _ g (λ z hz.
-      joined-part recordBytes _ d _ s (λ q hq. entry p z q hp hz hq)))
+      parts-joined (g * (s * recordBytes)) _ d (recordBytes * from) s (λ p hp.
+      parts-joined (s * recordBytes) _ d _ g (λ z hz.
+      parts-joined recordBytes _ d _ s (λ q hq. entry p z q hp hz hq)))
       ∙ ap (λ n. take n (drop (recordBytes * from) d)) size
     where
       size : s * (g * (s * recordBytes)) ≡ recordBytes * entriesIn s g
@@ -358,9 +358,9 @@ module _ (d : List ℕ) (bytes : Bytes d) where
   rows-back : (s g : ℕ) (r : RowVector) (from : ℕ) → recordBytes * (from + rowsIn s g) ≤ length d
       → ((p z : ℕ) → p < s → z < g → (isDue d (from + rowAt g p z) Means p z 0 ≡ true) × (r p z ≡ valueAt d (from + rowAt g p z)))
       → rowRecords s g r ≡ take (recordBytes * rowsIn s g) (drop (recordBytes * from) d)
-  unfolding rowRecords
+  unfolding rowRecords eachRow
   rows-back s g r from room due =
-      joined-part (g * recordBytes) _ d (recordBytes * from) s (λ p hp. joined-part recordBytes _ d _ g (λ z hz. row p z hp hz))
+      parts-joined (g * recordBytes) _ d (recordBytes * from) s (λ p hp. parts-joined recordBytes _ d _ g (λ z hz. row p z hp hz))
       ∙ ap (λ n. take n (drop (recordBytes * from) d)) size
     where
       size : s * (g * recordBytes) ≡ recordBytes * rowsIn s g

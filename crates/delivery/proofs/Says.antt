@@ -14,8 +14,8 @@ use Rattle.delivery.specs.declared.shape.Block.the-variants.{Uppers, Low
 use Rattle.delivery.specs.declared.shape.Shape.{Shape}
 use Rattle.delivery.specs.Records.{kindAt, stateAt, symbolAt, exitAt, valueAt, kindOf, leastOf, mostOf}
 use Rattle.delivery.specs.Shapes.{hasLowers, hasMeans, meansFrom}
-use Rattle.walks.specs.Order.{entriesIn, entryAt, rowAt, AtEntries, AtRows}
-use Rattle.delivery.specs.Layout.{eachEntry, eachRow, onlyIf, isDue, inRange, recordTests, upperRecords, lowerRecords, meanRecords, layoutTests}
+use Rattle.walks.specs.Order.{entriesIn, entryAt, rowAt, AtEntries, AtRows, eachEntry, eachRow}
+use Rattle.delivery.specs.Layout.{onlyIf, isDue, inRange, recordTests, upperRecords, lowerRecords, meanRecords, layoutTests}
 
 -- No test of the list fails exactly where A holds.
 pub record Says (ts : List Test) (A : Type 0) : Type 0 where

@@ -4,20 +4,14 @@ use mathlib.Core.Bool.{Bool, true, false, not, _&&_}
 use mathlib.Core.List.{List, [], _∷_, _++_}
 use lib.Dec.{eqb, leb}
 use Rattle.outcome.specs.declared.Reason.the-variants.{NotDue, ValueOutOfRange}
-use Rattle.outcome.specs.Tests.{Test, plain, each}
+use Rattle.outcome.specs.Tests.{Test, plain}
+use Rattle.walks.specs.Lists.{each}
 use Rattle.delivery.specs.declared.shape.Block.{Block}
 use Rattle.delivery.specs.declared.shape.Block.the-variants.{Uppers, Lowers, Means}
 use Rattle.delivery.specs.declared.shape.Shape.{Shape}
 use Rattle.delivery.specs.Records.{kindAt, stateAt, symbolAt, exitAt, valueAt, kindOf, leastOf, mostOf}
 use Rattle.delivery.specs.Shapes.{hasLowers, hasMeans, meansFrom}
-use Rattle.walks.specs.Order.{entriesIn, entryAt, rowAt}
-
--- The tests of all entries of a model with s states and g symbols, ascending by (p, Z, q), and of all rows, ascending by (p, Z).
-unfoldable pub eachEntry : ℕ → ℕ → (ℕ → ℕ → ℕ → List Test) → List Test
-eachEntry s g h = each s (λ p. each g (λ z. each s (h p z)))
-
-unfoldable pub eachRow : ℕ → ℕ → (ℕ → ℕ → List Test) → List Test
-eachRow s g h = each s (λ p. each g (h p))
+use Rattle.walks.specs.Order.{entriesIn, entryAt, rowAt, eachEntry, eachRow}
 
 -- Tests that stand only where a block does.
 abbrev pub onlyIf : Bool → List Test → List Test

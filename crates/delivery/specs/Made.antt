@@ -4,14 +4,13 @@ use mathlib.Core.Bool.{true, cond}
 use mathlib.Core.List.{List, [], _∷_, _++_}
 use mathlib.Core.Path.{_≡_}
 use Rattle.words.specs.Words.{fourBytes}
-use Rattle.walks.specs.Order.{AtRows, AtEntries}
+use Rattle.walks.specs.Order.{AtRows, AtEntries, eachRow, eachEntry}
 use Rattle.ppda.specs.Equations.{Vector, RowVector}
 use Rattle.delivery.specs.declared.shape.Block.{Block}
 use Rattle.delivery.specs.declared.shape.Block.the-variants.{Uppers, Lowers, Means}
 use Rattle.delivery.specs.declared.shape.Shape.{Shape}
 use Rattle.delivery.specs.Records.{kindOf, leastOf, mostOf}
 use Rattle.delivery.specs.Shapes.{hasLowers, hasMeans}
-use Rattle.walks.specs.Lists.{joinTo}
 
 -- The eight bytes of a record, of any kind, p, Z, q and value.
 abbrev pub deliveryRecord : ℕ → ℕ → ℕ → ℕ → ℕ → List ℕ
@@ -19,10 +18,10 @@ deliveryRecord k p z q v = k ∷ p ∷ z ∷ q ∷ fourBytes v
 
 -- A block of entries, ascending by (p, Z, q), and the mean steps, ascending by (p, Z).
 unfoldable pub entryRecords : ℕ → ℕ → Block → Vector → List ℕ
-entryRecords s g k v = joinTo (λ p. joinTo (λ z. joinTo (λ q. deliveryRecord (kindOf k) p z q (v p z q)) s) g) s
+entryRecords s g k v = eachEntry s g (λ p z q. deliveryRecord (kindOf k) p z q (v p z q))
 
 unfoldable pub rowRecords : ℕ → ℕ → RowVector → List ℕ
-rowRecords s g r = joinTo (λ p. joinTo (λ z. deliveryRecord (kindOf Means) p z 0 (r p z)) g) s
+rowRecords s g r = eachRow s g (λ p z. deliveryRecord (kindOf Means) p z 0 (r p z))
 
 -- The file of shape h with these uppers, lowers and mean steps. Lowers and mean steps that the shape does not have are left out.
 unfoldable pub madeDelivery : ℕ → ℕ → Shape → Vector → Vector → RowVector → List ℕ

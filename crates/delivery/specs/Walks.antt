@@ -3,7 +3,8 @@ use Prim.Native.Nat.{ℕ, _+_, _*_, _≤_, _<_}
 use mathlib.Core.List.{List}
 use mathlib.Core.Path.{_≡_}
 use lib.ListN.{length}
-use Rattle.outcome.specs.Tests.{Test, each}
+use Rattle.outcome.specs.Tests.{Test}
+use Rattle.walks.specs.Lists.{each}
 use Rattle.walks.specs.Order.{rowsIn, entriesIn}
 use Rattle.ppda.specs.Units.{mostChance, mostMean}
 use Rattle.model.specs.declared.sizes.Sizes.{Sizes}

@@ -10,8 +10,7 @@ use Rattle.ppda.specs.Units.{chanceUnit, stepUnit, sumUnit}
 use Rattle.ppda.specs.Rules.{Rule}
 use Rattle.ppda.specs.Equations.{Vector, RowVector, f, meanSide}
 use Rattle.ppda.specs.Live.{isLive}
-use Rattle.walks.specs.Order.{entriesIn, entryAt, rowAt}
-use Rattle.delivery.specs.Layout.{eachEntry, eachRow}
+use Rattle.walks.specs.Order.{entriesIn, entryAt, rowAt, eachEntry, eachRow}
 
 -- At place i, an entry that is live or not has the value v: a dead entry is 0.
 unfoldable pub deadTest : Bool → ℕ → ℕ → Test

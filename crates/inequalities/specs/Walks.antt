@@ -2,16 +2,16 @@
 use Prim.Native.Nat.{ℕ, _+_, _/_, _%_}
 use mathlib.Core.Bool.{Bool, true, false}
 use mathlib.Core.List.{List, [], _∷_}
-use Rattle.outcome.specs.Tests.{Test, each}
+use Rattle.outcome.specs.Tests.{Test}
+use Rattle.walks.specs.Lists.{each}
 use Rattle.ppda.specs.Units.{chanceUnit, stepUnit}
-use Rattle.walks.specs.Order.{entriesIn, rowAt, entryAt, byRow}
+use Rattle.walks.specs.Order.{entriesIn, rowAt, entryAt, byRow, eachEntry, eachRow}
 use Rattle.ppda.specs.Equations.{f, meanSide}
 use Rattle.ppda.specs.Live.{isLive}
 use Rattle.model.specs.declared.sizes.Sizes.{Sizes}
 use Rattle.model.specs.Rules.{rulesOf}
 use Rattle.delivery.specs.Records.{valueAt}
 use Rattle.delivery.specs.Numbers.{uppersOf, rowsOfBlock}
-use Rattle.delivery.specs.Layout.{eachEntry, eachRow}
 use Rattle.live.specs.Exits.{exitMarks}
 use Rattle.inequalities.specs.declared.sides.Side.{Side}
 use Rattle.inequalities.specs.declared.sides.Side.the-variants.{Upper, StrictUpper, Lower}

@@ -6,7 +6,8 @@ use lib.Dec.{eqb, leb, ltb}
 use lib.ListN.{length}
 use Rattle.outcome.specs.declared.Outcome.{Outcome}
 use Rattle.outcome.specs.declared.Reason.the-variants.{ModelLength, OutOfRange, UnusedNotZero, WeightOutOfRange, NotAscending, RowSumWrong}
-use Rattle.outcome.specs.Tests.{Test, plain, first, each}
+use Rattle.outcome.specs.Tests.{Test, plain, first}
+use Rattle.walks.specs.Lists.{each}
 use Rattle.ppda.specs.Units.{weightUnit}
 use Rattle.walks.specs.Order.{rowsIn}
 use Rattle.model.specs.Format.{recordBytes, mostBytes, mostStates, mostSymbols, mostPushes}

@@ -14,7 +14,8 @@ pub mod sizes; // sizes.rt: records, states and symbols; the order of rows and e
 ghost use mathlib.Core.Path.{_≡_};
 ghost use Prim.Native.Nat.{_≤_, _*_};
 ghost use lib.ListN.{length};
-ghost use Rattle.outcome.specs.Tests.{first, each};
+ghost use Rattle.outcome.specs.Tests.{first};
+ghost use Rattle.walks.specs.Lists.{each};
 ghost use Rattle.model.specs.Format.{recordBytes};
 ghost use Rattle.model.specs.W.{wFile};
 ghost use Rattle.model.specs.Verdict.{wholeRecords, recordTests, modelVerdict};

@@ -8,12 +8,12 @@ use mathlib.Core.List.{List, [], _∷_, _++_}
 use mathlib.Core.Logic.{_↔_, _⊎_, inl, inr}
 use mathlib.Core.Path.{_≡_, refl, sym, ap, ap₂, _∙_}
 use lib.IntN.{ℤ}
-use Rattle.walks.specs.Lists.{joinTo}
+use Rattle.walks.specs.Lists.{each}
 use Rattle.walks.proofs.Sums.{last-or-below}
 use Rattle.outcome.specs.declared.Reason.{Reason}
 use Rattle.outcome.specs.declared.Outcome.{Outcome}
 use Rattle.outcome.specs.declared.Outcome.the-variants.{Accepted, Refused}
-use Rattle.outcome.specs.Tests.{Test, refusal, isRefused, first, each, Passed, FirstFailure}
+use Rattle.outcome.specs.Tests.{Test, refusal, isRefused, first, Passed, FirstFailure}
 
 -- ---- one test in front
 
@@ -106,12 +106,12 @@ first-failure (t ∷ ts) r i k e =
 -- ---- the tests of 0, 1, …, n − 1
 
 each-step : (h : ℕ → List Test) (i : ℕ) → each (i + 1) h ≡ each i h ++ h i
-unfolding each joinTo
+unfolding each
 each-step h i = rw add-one
 
 -- Where a loop begins, and one more turn of it.
 pub each-none : (h : ℕ → List Test) → first (each 0 h) ≡ Accepted
-unfolding each joinTo
+unfolding each
 each-none h = first-empty
 
 pub each-more : (h : ℕ → List Test) (i : ℕ) → first (each i h) ≡ Accepted → first (h i) ≡ Accepted → first (each (i + 1) h) ≡ Accepted
@@ -120,7 +120,7 @@ each-more h i e f = ap first (each-step h i) ∙ first-after (each i h) (h i) e 
 -- The first list of tests that is refused decides for all.
 pub each-hit : (h : ℕ → List Test) (n i : ℕ) → i < n → first (each i h) ≡ Accepted → (first (h i) ≡ Accepted → ⊥)
     → first (each n h) ≡ first (h i)
-unfolding each joinTo
+unfolding each
 each-hit h zero i l e x = absurd (omega arith)
 each-hit h (suc n) i l e x =
     last-or-below i n l
@@ -145,12 +145,6 @@ first-rest xs ys o a e f d = d ∙ sym (first-after xs ys (sym e ∙ f))
 pub each-end : (h : ℕ → List Test) (n i : ℕ) → first (each i h) ≡ Accepted → i ≡ n → first (each n h) ≡ Accepted
 each-end h n i a e = rw e at a
 
--- Equal tests at each number below n are equal tests in all.
-pub each-cong : (h k : ℕ → List Test) (n : ℕ) → ((i : ℕ) → i < n → h i ≡ k i) → each n h ≡ each n k
-unfolding each joinTo
-each-cong h k zero e = refl
-each-cong h k (suc n) e = ap₂ _++_ (each-cong h k n (λ i l. e i (omega arith))) (e n (omega arith))
-
 -- ---- no test fails: of one test, of two lists, of 0, 1, …, n − 1
 
 pub passed-one : (t : Test) → Passed (t ∷ []) ↔ (t .fails ≡ false)
@@ -164,7 +158,7 @@ passed-append (t ∷ xs) ys = (
 )
 
 pub passed-each : (n : ℕ) (h : ℕ → List Test) → Passed (each n h) ↔ ((i : ℕ) → i < n → Passed (h i))
-unfolding each joinTo
+unfolding each
 passed-each zero h = (λ p i l. absurd (omega arith), λ p. tt)
 passed-each (suc n) h = (
   λ p i l. let q = passed-append (each n h) (h n) .0 p in last-or-below i n l (λ e. rw e (q .1)) (λ b. passed-each n h .0 (q .0) i b),
@@ -203,7 +197,7 @@ module _ {P : Reason → ℕ → Type 0} where
           f .refused r i k (sym (first-stands xs ys (λ a. refusal-not-accepted (first xs) a q)) ∙ e)
 
   pub refusals-each : (m : ℕ) {h : ℕ → List Test} → ((i : ℕ) → i < m → Refusals P (h i)) → Refusals P (each m h)
-  unfolding each joinTo
+  unfolding each
   refusals-each zero f = refusals-none
   refusals-each (suc m) f = refusals-append (refusals-each m (λ i l. f i (omega arith))) (λ a. f m (omega arith))
 

@@ -5,7 +5,6 @@ use mathlib.Core.Bool.{Bool, true, false, cond}
 use mathlib.Core.List.{List, [], _∷_, _++_}
 use mathlib.Core.Path.{_≡_}
 use lib.IntN.{ℤ, pos}
-use Rattle.walks.specs.Lists.{joinTo}
 use Rattle.outcome.specs.declared.Reason.{Reason}
 use Rattle.outcome.specs.declared.Outcome.{Outcome}
 use Rattle.outcome.specs.declared.Outcome.the-variants.{Accepted, Refused}
@@ -35,10 +34,6 @@ isRefused (Refused r i k) = true
 unfoldable pub first : List Test → Outcome
 first [] = Accepted
 first (t ∷ ts) = cond (t .fails) (refusal t) (first ts)
-
--- The tests of 0, 1, …, n − 1, one after the other.
-unfoldable pub each : ℕ → (ℕ → List Test) → List Test
-each n h = joinTo h n
 
 -- No test of the list fails.
 abbrev pub Passed : List Test → Type 0

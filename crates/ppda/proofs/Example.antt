@@ -9,7 +9,7 @@ use Rattle.ppda.specs.Runs.{after, lists, weigh, overRuns, overRunsWithi
 use Rattle.ppda.specs.Chances.{chance, chanceFrom, mean, counted}
 use Rattle.ppda.specs.Equations.{Vector, RowVector, entries, rows, f, meanSide}
 use Rattle.ppda.proofs.Rows.{rules-of-test}
-use Rattle.walks.specs.Lists.{listTo, joinTo}
+use Rattle.walks.specs.Lists.{listTo, each}
 use Rattle.walks.proofs.Lists.{at-rows, inOrder, rowsInOrder}
 
 abbrev pub v : List Rule
@@ -25,11 +25,11 @@ is-model = record {
 }
 
 pub chances : inOrder 2 2 (chance v 2) ≡ 1073741824 ∷ 2147483648 ∷ 4294967296 ∷ 0 ∷ 536870912 ∷ 1610612736 ∷ 1073741824 ∷ 3221225472 ∷ []
-unfolding inOrder joinTo listTo chanceFrom overRunsWithin overRuns sumTo sum lists flatMap after weigh fits
+unfolding inOrder each listTo chanceFrom overRunsWithin overRuns sumTo sum lists flatMap after weigh fits
 chances = refl
 
 pub means : rowsInOrder 2 2 (mean v 2) ≡ 6442450944 ∷ 4294967296 ∷ 8589934592 ∷ 4294967296 ∷ []
-unfolding rowsInOrder joinTo listTo counted overRunsWithin overRuns sumTo sum lists flatMap after weigh fits
+unfolding rowsInOrder each listTo counted overRunsWithin overRuns sumTo sum lists flatMap after weigh fits
 means = refl
 
 abbrev pub vUppers : Vector
@@ -40,11 +40,11 @@ vMeans = rows 2 (10 ∷ 20 ∷ 30 ∷ 40 ∷ [])
 
 pub f-is : inOrder 2 2 (f v 2 (2 ^ 20) vUppers)
     ≡ 51540377600 ∷ 36028865739456512 ∷ 72057594037927936 ∷ 0 ∷ 240518725632 ∷ 274878562304 ∷ 18014398509481984 ∷ 54043195528445952 ∷ []
-unfolding inOrder joinTo listTo f overRow sum fits sumTo
+unfolding inOrder each listTo f overRow sum fits sumTo
 f-is = refl
 
 pub sides : rowsInOrder 2 2 (meanSide v 2 (2 ^ 20) (2 ^ 8) vUppers vMeans) ≡ 18622983274496 ∷ 17592186044416 ∷ 19310176239616 ∷ 17592186044416 ∷ []
-unfolding rowsInOrder joinTo listTo meanSide overRow sum fits sumTo
+unfolding rowsInOrder each listTo meanSide overRow sum fits sumTo
 sides = refl
 
 -- With s states and g symbols, entry (p, z, q) has the place (p × g + z) × s + q, and row (p, z) the place p × g + z.

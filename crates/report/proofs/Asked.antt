@@ -7,7 +7,7 @@ use mathlib.Core.Path.{_≡_, ap, _∙_}
 use lib.ListN.{length, getD}
 use Rattle.text.specs.Walks.{Put}
 use Rattle.text.proofs.Puts.{put-then}
-use Rattle.walks.proofs.Lists.{join-cong}
+use Rattle.walks.proofs.Lists.{each-cong}
 use Rattle.walks.specs.Order.{entryAt, entriesIn, rowsIn, byEntry}
 use Rattle.ppda.specs.Equations.{Vector, entries, Same}
 use Rattle.walks.proofs.Places.{row-of}
@@ -55,7 +55,7 @@ put-holds size p fits = record { size = p .size ∙ size; fits = fits; holds = p
 chances-same : (ask : Call → Reply) {s g : ℕ} (v u : Vector) → Fits s g → Same s g v u → chanceLines ask v s g ≡ chanceLines ask u s g
 unfolding chanceLines
 chances-same ask {s} {g} v u fits same =
-    join-cong _ _ (entriesIn s g) (λ e l.
+    each-cong _ _ (entriesIn s g) (λ e l.
     let (hr, hq, is-entry) = row-of (rowsIn s g) s e (fits .some-states) l in
     let (hp, hz, is-row) = row-of s g (e / s) (fits .some-symbols) hr in
     ap (chanceOf ask (e / s / g) (e / s % g) (e % s)) (same _ _ _ hp hz hq))

@@ -4,11 +4,10 @@ use Prim.Native.Nat.{ℕ, zero, suc, _+_, _*_}
 use native.Mathlib.Nat.{add-zero, add-suc, zero-mul, suc-mul}
 use native.Mathlib.Omega.{arith}
 use mathlib.Core.List.{List}
-use mathlib.Core.Path.{_≡_, refl, ap, ap₂, _∙_}
-use Rattle.walks.specs.Lists.{joinTo}
-use Rattle.walks.proofs.Lists.{join-cong, join-flat}
+use mathlib.Core.Path.{_≡_, refl, sym, ap, ap₂, _∙_}
+use Rattle.walks.proofs.Orders.{rows-by-number, entries-in-order}
 use Rattle.walks.specs.Sums.{sumTo}
-use Rattle.walks.specs.Order.{byRow}
+use Rattle.walks.specs.Order.{byRow, eachRow, eachEntry}
 use Rattle.ppda.specs.Equations.{Vector}
 use Rattle.walks.proofs.Places.{row-at}
 use Rattle.walks.proofs.Sums.{sumTo-cong}
@@ -17,20 +16,13 @@ use Rattle.report.specs.Printed.{liveAt, liveEntries, chanceAt, chanceLi
 
 -- ---- lines
 
-rows-joined : (s g : ℕ) (h : ℕ → ℕ → List ℕ) → joinTo (byRow g h) (s * g) ≡ joinTo (λ p. joinTo (h p) g) s
-rows-joined s g h =
-    join-flat (byRow g h) s g
-    ∙ join-cong _ _ s (λ p hp. join-cong _ _ g (λ z hz. ap₂ h (row-at g p z hz .0) (row-at g p z hz .1)))
-
-pub chances-in-order : (ask : Call → Reply) (gap : Vector) (s g : ℕ)
-    → chanceLines ask gap s g ≡ joinTo (λ p. joinTo (λ z. joinTo (chanceAt ask gap p z) s) g) s
+pub chances-in-order : (ask : Call → Reply) (gap : Vector) (s g : ℕ) → chanceLines ask gap s g ≡ eachEntry s g (chanceAt ask gap)
 unfolding chanceLines
-chances-in-order ask gap s g =
-    rows-joined (s * g) s (byRow g (chanceAt ask gap)) ∙ rows-joined s g (λ p z. joinTo (chanceAt ask gap p z) s)
+chances-in-order ask gap s g = sym (entries-in-order s g (chanceAt ask gap))
 
-pub steps-in-order : (ask : Call → Reply) (s g : ℕ) → stepsLines ask s g ≡ joinTo (λ p. joinTo (stepsAt ask p) g) s
+pub steps-in-order : (ask : Call → Reply) (s g : ℕ) → stepsLines ask s g ≡ eachRow s g (stepsAt ask)
 unfolding stepsLines
-steps-in-order ask s g = rows-joined s g (stepsAt ask)
+steps-in-order ask s g = sym (rows-by-number s g (stepsAt ask))
 
 -- ---- the count
 

@@ -3,7 +3,7 @@
 use Prim.Native.Nat.{ℕ}
 use mathlib.Core.Bool.{cond}
 use mathlib.Core.List.{List, [], _∷_, _++_}
-use Rattle.walks.specs.Lists.{joinTo}
+use Rattle.walks.specs.Lists.{each}
 use Rattle.walks.specs.Sums.{bit, sumTo}
 use Rattle.walks.specs.Order.{rowsIn, entriesIn, byRow, byEntry}
 use Rattle.ppda.specs.Equations.{Vector}
@@ -32,7 +32,7 @@ chanceAt ask gap p z q = chanceOf ask p z q (gap p z q)
 
 -- The lines of the live entries, in file order.
 unfoldable pub chanceLines : (Call → Reply) → Vector → ℕ → ℕ → List ℕ
-chanceLines ask gap s g = joinTo (byEntry s g (chanceAt ask gap)) (entriesIn s g)
+chanceLines ask gap s g = each (entriesIn s g) (byEntry s g (chanceAt ask gap))
 
 -- The line of a row, if there are mean steps.
 abbrev pub stepsAt : (Call → Reply) → ℕ → ℕ → List ℕ
@@ -40,7 +40,7 @@ stepsAt ask p z = stepsBy p z (ask (meanSteps p z))
 
 -- The lines of the rows, in file order.
 unfoldable pub stepsLines : (Call → Reply) → ℕ → ℕ → List ℕ
-stepsLines ask s g = joinTo (byRow g (stepsAt ask)) (rowsIn s g)
+stepsLines ask s g = each (rowsIn s g) (byRow g (stepsAt ask))
 
 -- All lines of a model with s states, g symbols and n records, with u − f(u) by `gap`.
 unfoldable pub linesBy : (Call → Reply) → ℕ → Vector → ℕ → ℕ → List ℕ

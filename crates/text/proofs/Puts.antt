@@ -9,7 +9,7 @@ use lib.ListN.{length, take, set, getD, length-append, length-set}
 use lib.Seq.{take-all, paste, length-paste, take-paste, take-suc, take-suc-set}
 use Rattle.text.specs.Decimal.{decimal}
 use Rattle.text.specs.Texts.{fields, spaced}
-use Rattle.walks.specs.Lists.{joinTo}
+use Rattle.walks.specs.Lists.{each}
 use Rattle.text.specs.Walks.{Put}
 
 -- Nothing.
@@ -35,19 +35,19 @@ pub put-as : {a b : List ℕ} {at e : ℕ} {t u : List ℕ} → t ≡ u → Put 
 put-as {a} {b} {at} {e} same p = subst (Put a b at e) same p
 
 -- One text more of those that are joined.
-pub put-join : {a b c : List ℕ} {at m e : ℕ} (h : ℕ → List ℕ) (i : ℕ) → Put a b at m (joinTo h i) → Put b c m e (h i)
-    → Put a c at e (joinTo h (i + 1))
-unfolding joinTo
+pub put-join : {a b c : List ℕ} {at m e : ℕ} (h : ℕ → List ℕ) (i : ℕ) → Put a b at m (each i h) → Put b c m e (h i)
+    → Put a c at e (each (i + 1) h)
+unfolding each
 put-join h i p q = rw add-one (put-then p q)
 
 -- A loop that puts one text of a join at each turn, each of at most k bytes, after i of n turns.
 pub record Joined (h : ℕ → List ℕ) (k n : ℕ) (before after : List ℕ) (at end i : ℕ) : Type 0 where
   pub to : i ≤ n
   pub most : end ≤ at + k * i
-  pub join : Put before after at end (joinTo h i)
+  pub join : Put before after at end (each i h)
 
 pub joined-none : (h : ℕ → List ℕ) (k n : ℕ) (a : List ℕ) (at : ℕ) → Joined h k n a a at at 0
-unfolding joinTo
+unfolding each
 joined-none h k n a at = record { to = omega arith; most = omega arith; join = put-none a at }
 
 pub joined-more : {h : ℕ → List ℕ} {k n : ℕ} {a b c : List ℕ} {at m e i : ℕ} → Joined h k n a b at m i → i < n
@@ -56,9 +56,9 @@ joined-more {h} {i = i} so turn text =
     record { to = omega arith; most = omega arith; join = put-join h i (so .join) (text .0) }
 
 pub joined-all : {h : ℕ → List ℕ} {k n : ℕ} {a b : List ℕ} {at e i : ℕ} → Joined h k n a b at e i → n ≤ i
-    → Put a b at e (joinTo h n) × (e ≤ at + k * n)
+    → Put a b at e (each n h) × (e ≤ at + k * n)
 joined-all {h} {n = n} {i = i} so done =
-    let all : i ≡ n = omega arith in (put-as (ap (joinTo h) all) (so .join), rw (← all) (so .most))
+    let all : i ≡ n = omega arith in (put-as (ap (λ j. each j h) all) (so .join), rw (← all) (so .most))
 
 -- A whole copy.
 pub put-paste : {a b : List ℕ} (at : ℕ) (t : List ℕ) (i : ℕ) → at + length t ≤ length a → i ≡ length t

@@ -2,3 +2,4 @@
 pub mod Sums
 pub mod Lists
 pub mod Places
+pub mod Orders

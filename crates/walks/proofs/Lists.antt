@@ -11,7 +11,7 @@ use lib.ListN.{length, getD, replicate, length-append, List·getD-append}
 use lib.Seq.{ext-getD, getD-at, getD-append-add}
 use borrow.Author.Tests.{eqb-true, eqb-false}
 use Rattle.walks.specs.Sums.{sum, sumTo, In}
-use Rattle.walks.specs.Lists.{listTo, joinTo}
+use Rattle.walks.specs.Lists.{listTo, each}
 use Rattle.walks.proofs.Sums.{sum-append, last-or-below}
 use Rattle.walks.proofs.Places.{row-below}
 
@@ -40,10 +40,10 @@ getD-zeros (suc n) (suc e) = getD-zeros n e
 
 -- The numbers of a vector, or of rows, in file order.
 unfoldable pub inOrder : ℕ → ℕ → (ℕ → ℕ → ℕ → ℕ) → List ℕ
-inOrder s g v = joinTo (λ p. joinTo (λ z. listTo (v p z) s) g) s
+inOrder s g v = each s (λ p. each g (λ z. listTo (v p z) s))
 
 unfoldable pub rowsInOrder : ℕ → ℕ → (ℕ → ℕ → ℕ) → List ℕ
-rowsInOrder s g r = joinTo (λ p. listTo (r p) g) s
+rowsInOrder s g r = each s (λ p. listTo (r p) g)
 
 module _ {A : Type 0} where
   -- The test passes at every element.
@@ -141,41 +141,44 @@ listTo-first h (suc n) = ap (λ l. l ++ (h (suc n) ∷ [])) (listTo-first h n)
 
 -- ---- lists one after the other
 
--- The same lists, the same join.
-pub join-cong : {A : Type 0} (h k : ℕ → List A) (n : ℕ) → ((i : ℕ) → i < n → h i ≡ k i) → joinTo h n ≡ joinTo k n
-unfolding joinTo
-join-cong h k zero same = refl
-join-cong h k (suc n) same = ap₂ _++_ (join-cong h k n (λ i l. same i (omega arith))) (same n (omega arith))
+module _ {A : Type 0} where
+  -- Equal lists at each number below n are equal lists in all.
+  pub each-cong : (h k : ℕ → List A) (n : ℕ) → ((i : ℕ) → i < n → h i ≡ k i) → each n h ≡ each n k
+  unfolding each
+  each-cong h k zero e = refl
+  each-cong h k (suc n) e = ap₂ _++_ (each-cong h k n (λ i l. e i (omega arith))) (e n (omega arith))
 
--- The first a lists, then b more.
-join-append : {A : Type 0} (h : ℕ → List A) (a b : ℕ) → joinTo h (a + b) ≡ joinTo h a ++ joinTo (λ j. h (a + j)) b
-unfolding joinTo
-join-append h a zero = ap (joinTo h) (add-zero a) ∙ sym (append-nil (joinTo h a))
-join-append h a (suc b) = ap (joinTo h) (add-suc a b) ∙ rw (join-append h a b, append-assoc)
+  -- The first a, then b more.
+  each-append : (a b : ℕ) (h : ℕ → List A) → each a h ++ each b (λ j. h (a + j)) ≡ each (a + b) h
+  unfolding each
+  each-append a zero h = append-nil (each a h) ∙ ap (λ n. each n h) (sym (add-zero a))
+  each-append a (suc b) h =
+      sym (append-assoc (each a h) (each b (λ j. h (a + j))) (h (a + b))) ∙ ap (λ l. l ++ h (a + b)) (each-append a b h)
+      ∙ ap (λ n. each n h) (sym (add-suc a b))
 
--- n times m lists are n joins of m.
-pub join-flat : {A : Type 0} (h : ℕ → List A) (n m : ℕ) → joinTo h (n * m) ≡ joinTo (λ i. joinTo (λ j. h (i * m + j)) m) n
-unfolding joinTo
-join-flat h zero m = ap (joinTo h) (zero-mul m)
-join-flat h (suc n) m =
-    ap (joinTo h) (suc-mul n m) ∙ join-append h (n * m) m ∙ ap (λ t. t ++ joinTo (λ j. h (n * m + j)) m) (join-flat h n m)
+  -- n times m lists, nested and in one sequence.
+  pub each-flat : (n m : ℕ) (h : ℕ → List A) → each n (λ i. each m (λ j. h (i * m + j))) ≡ each (n * m) h
+  unfolding each
+  each-flat zero m h = ap (λ k. each k h) (sym (zero-mul m))
+  each-flat (suc n) m h =
+      ap (λ l. l ++ each m (λ j. h (n * m + j))) (each-flat n m h) ∙ each-append (n * m) m h ∙ ap (λ k. each k h) (sym (suc-mul n m))
 
 -- Lists of one length w.
 module _ (w : ℕ) (h : ℕ → List ℕ) where
-  pub length-joined : (n : ℕ) → ((i : ℕ) → i < n → length (h i) ≡ w) → length (joinTo h n) ≡ n * w
-  unfolding joinTo
-  length-joined zero size = sym (zero-mul w)
-  length-joined (suc n) size =
-      length-append (joinTo h n) (h n) ∙ omega (arith, length-joined n (λ i l. size i (omega arith)), size n (omega arith))
+  pub length-each : (n : ℕ) → ((i : ℕ) → i < n → length (h i) ≡ w) → length (each n h) ≡ n * w
+  unfolding each
+  length-each zero size = sym (zero-mul w)
+  length-each (suc n) size =
+      length-append (each n h) (h n) ∙ omega (arith, length-each n (λ i l. size i (omega arith)), size n (omega arith))
 
   -- Number k of list i.
-  pub getD-joined : (n : ℕ) → ((i : ℕ) → i < n → length (h i) ≡ w) → (i k : ℕ) → i < n → k < w
-      → getD (joinTo h n) (i * w + k) 0 ≡ getD (h i) k 0
-  unfolding joinTo
-  getD-joined zero size i k l lk = absurd (omega arith)
-  getD-joined (suc n) size i k l lk =
-      let long : length (joinTo h n) ≡ n * w = length-joined n (λ j m. size j (omega arith)) in
+  pub getD-each : (n : ℕ) → ((i : ℕ) → i < n → length (h i) ≡ w) → (i k : ℕ) → i < n → k < w
+      → getD (each n h) (i * w + k) 0 ≡ getD (h i) k 0
+  unfolding each
+  getD-each zero size i k l lk = absurd (omega arith)
+  getD-each (suc n) size i k l lk =
+      let long : length (each n h) ≡ n * w = length-each n (λ j m. size j (omega arith)) in
       last-or-below i n l
-      (λ e. rw (e, ← long) (getD-append-add (joinTo h n) (h n) k 0))
-      (λ m. List·getD-append (joinTo h n) (h n) 0 (i * w + k) (rw long (row-below n w i k m lk))
-      ∙ getD-joined n (λ j o. size j (omega arith)) i k m lk)
+      (λ e. rw (e, ← long) (getD-append-add (each n h) (h n) k 0))
+      (λ m. List·getD-append (each n h) (h n) 0 (i * w + k) (rw long (row-below n w i k m lk))
+      ∙ getD-each n (λ j o. size j (omega arith)) i k m lk)

@@ -9,6 +9,6 @@ module _ {A : Type 0} where
   listTo h (suc n) = listTo h n ++ (h n ∷ [])
 
   -- The lists h 0, h 1, …, h (n − 1), one after the other.
-  unfoldable pub joinTo : (ℕ → List A) → ℕ → List A
-  joinTo h zero = []
-  joinTo h (suc n) = joinTo h n ++ h n
+  unfoldable pub each : ℕ → (ℕ → List A) → List A
+  each zero h = []
+  each (suc n) h = each n h ++ h n

@@ -1,5 +1,7 @@
 -- The order of files: rows ascend by (p, z), and entries by (p, z, q) (document 01, "Deliveries").
 use Prim.Native.Nat.{ℕ, _+_, _*_, _<_, _/_, _%_}
+use mathlib.Core.List.{List}
+use Rattle.walks.specs.Lists.{each}
 
 -- How many rows (p, z) a model with s states and g symbols has, and V, how many entries (p, z, q).
 abbrev pub rowsIn : ℕ → ℕ → ℕ
@@ -32,3 +34,10 @@ byRow g h k = h (k / g) (k % g)
 -- What h says of entry number e of a model with s states, which is exit e % s of row number e / s: entries ascend in the order of p, Z and q.
 abbrev pub byEntry : {A : Type 0} → ℕ → ℕ → (ℕ → ℕ → ℕ → A) → ℕ → A
 byEntry s g h e = byRow g h (e / s) (e % s)
+
+-- The lists of every row, and of every entry, one after the other in this order.
+unfoldable pub eachRow : {A : Type 0} → ℕ → ℕ → (ℕ → ℕ → List A) → List A
+eachRow s g h = each s (λ p. each g (h p))
+
+unfoldable pub eachEntry : {A : Type 0} → ℕ → ℕ → (ℕ → ℕ → ℕ → List A) → List A
+eachEntry s g h = each s (λ p. each g (λ z. each s (h p z)))

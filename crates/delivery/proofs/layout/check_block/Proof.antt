@@ -5,7 +5,8 @@ use native.Mathlib.Omega.{arith}
 use mathlib.Core.Path.{_≡_, sym, _∙_}
 use borrow.Author.Needs.{needs}
 use Rattle.outcome.proofs.Tests.{each-none, each-more, each-refused, each-end}
-use Rattle.outcome.specs.Tests.{first, each}
+use Rattle.outcome.specs.Tests.{first}
+use Rattle.walks.specs.Lists.{each}
 use Rattle.outcome.specs.declared.Outcome.the-variants.{Accepted}
 use Rattle.delivery.specs.Walks.{stateOfBlock}
 use Rattle.delivery.proofs.layout.check_block.Statement.{statement}

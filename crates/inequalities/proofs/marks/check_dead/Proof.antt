@@ -6,11 +6,12 @@ use mathlib.Core.Path.{_≡_, sym, ap, _∙_}
 use denote.Ref.{now}
 use borrow.Author.Needs.{needs}
 use Rattle.outcome.proofs.Tests.{each-none, each-more, each-refused, each-end}
-use Rattle.outcome.specs.Tests.{first, each}
+use Rattle.outcome.specs.Tests.{first}
+use Rattle.walks.specs.Lists.{each}
 use Rattle.outcome.specs.declared.Outcome.the-variants.{Accepted}
 use Rattle.walks.specs.Order.{rowsIn}
 use Rattle.model.specs.Format.{mostRows}
-use Rattle.delivery.proofs.Walks.{entries-by-row}
+use Rattle.walks.proofs.Orders.{entries-by-row}
 use Rattle.inequalities.specs.Walks.{deadRow, deadBlock}
 use Rattle.inequalities.proofs.marks.check_dead.Statement.{statement}
 use Rattle.inequalities.proofs.marks.check_dead.Tie as tie
@@ -27,7 +28,7 @@ walked : (c : tie.Start Inv-loop μ-loop)
     → let args = c .args in
     each (rowsIn (args .n .states) (args .n .symbols)) (deadRow (args .n) (now (args .live)) (now (args .block)) (args .from))
     ≡ deadBlock (args .n) (now (args .live)) (now (args .block)) (args .from)
-walked c = sym (entries-by-row (c .args .n .states) (c .args .n .symbols) _ (c .pre .0 .0 .some-symbols))
+walked c = sym (entries-by-row (c .args .n .states) (c .args .n .symbols) _)
 
 rows-requires : tie.Need-rows-requires Inv-loop μ-loop
 rows-requires c κs = search needs

@@ -6,9 +6,10 @@ use mathlib.Core.Path.{_≡_, sym, ap, _∙_}
 use denote.Ref.{now}
 use borrow.Author.Needs.{needs}
 use Rattle.outcome.proofs.Tests.{each-none, each-more, each-refused, each-end}
-use Rattle.outcome.specs.Tests.{Test, first, each}
+use Rattle.outcome.specs.Tests.{Test, first}
+use Rattle.walks.specs.Lists.{each}
 use Rattle.outcome.specs.declared.Outcome.the-variants.{Accepted}
-use Rattle.delivery.proofs.Walks.{rows-by-number}
+use Rattle.walks.proofs.Orders.{rows-by-number}
 use Rattle.walks.specs.Order.{rowsIn}
 use Rattle.model.specs.declared.sizes.Sizes.{Sizes}
 use Rattle.model.specs.Format.{mostRows}
@@ -34,7 +35,7 @@ walked : (c : tie.Start Inv-loop μ-loop)
     → let args = c .args in
     each (rowsIn (args .n .states) (args .n .symbols)) (rowTest (now (args .model)) (args .n) (now (args .uppers)) (now (args .means)) (args .from))
     ≡ meanBlock (now (args .model)) (args .n) (now (args .uppers)) (now (args .means)) (args .from)
-walked c = sym (rows-by-number (c .args .n .states) (c .args .n .symbols) _ (sized-fits (c .pre .0 .0 .sized) .some-symbols))
+walked c = sym (rows-by-number (c .args .n .states) (c .args .n .symbols) _)
 
 -- The outcome found is that of the row's test.
 found : (c : tie.After-check-mean Inv-loop μ-loop)

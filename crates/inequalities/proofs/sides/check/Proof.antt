@@ -6,9 +6,10 @@ use mathlib.Core.Path.{_≡_, sym, ap, _∙_}
 use denote.Ref.{now}
 use borrow.Author.Needs.{needs}
 use Rattle.outcome.proofs.Tests.{each-none, each-more, each-refused, each-end}
-use Rattle.outcome.specs.Tests.{first, each}
+use Rattle.outcome.specs.Tests.{first}
+use Rattle.walks.specs.Lists.{each}
 use Rattle.outcome.specs.declared.Outcome.the-variants.{Accepted}
-use Rattle.delivery.proofs.Walks.{entries-by-row}
+use Rattle.walks.proofs.Orders.{entries-by-row}
 use Rattle.walks.specs.Order.{rowsIn}
 use Rattle.model.specs.Format.{mostRows}
 use Rattle.model.proofs.Accepted.{sized-fits}
@@ -28,7 +29,7 @@ walked : (c : tie.Start Inv-loop μ-loop)
     → let args = c .args in
     each (rowsIn (args .n .states) (args .n .symbols)) (sideRow (args .side) (now (args .model)) (args .n) (now (args .live)) (now (args .block)))
     ≡ sideBlock (args .side) (now (args .model)) (args .n) (now (args .live)) (now (args .block))
-walked c = sym (entries-by-row (c .args .n .states) (c .args .n .symbols) _ (sized-fits (c .pre .0 .sized) .some-symbols))
+walked c = sym (entries-by-row (c .args .n .states) (c .args .n .symbols) _)
 
 rows-requires : tie.Need-rows-requires Inv-loop μ-loop
 rows-requires c κs = sized-fits (c .before .before .pre .0 .sized)

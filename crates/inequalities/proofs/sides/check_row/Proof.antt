@@ -5,7 +5,8 @@ use mathlib.Core.Path.{_≡_, sym, _∙_}
 use denote.Ref.{now}
 use borrow.Author.Needs.{needs}
 use Rattle.outcome.proofs.Tests.{each-none, each-more, each-refused, each-end}
-use Rattle.outcome.specs.Tests.{first, each}
+use Rattle.outcome.specs.Tests.{first}
+use Rattle.walks.specs.Lists.{each}
 use Rattle.outcome.specs.declared.Outcome.the-variants.{Accepted}
 use Rattle.model.proofs.Records.{fits-narrow}
 use Rattle.model.proofs.Accepted.{sized-fits}

@@ -6,7 +6,8 @@ use lib.ListN.{getD}
 use denote.Ref.{now}
 use borrow.Author.Needs.{needs}
 use Rattle.outcome.proofs.Tests.{each-none, each-more, each-hit, refusal-not-accepted, each-end}
-use Rattle.outcome.specs.Tests.{first, each}
+use Rattle.outcome.specs.Tests.{first}
+use Rattle.walks.specs.Lists.{each}
 use Rattle.outcome.specs.declared.Outcome.the-variants.{Accepted}
 use Rattle.walks.specs.Order.{rowsIn}
 use Rattle.model.specs.declared.sizes.Sizes.{Sizes}

@@ -5,7 +5,7 @@ use mathlib.Core.Path.{_≡_, ap}
 use denote.Ref.{now}
 use borrow.Author.Needs.{needs}
 use Rattle.text.proofs.Puts.{put-as, Joined, joined-none, joined-more, joined-all}
-use Rattle.walks.specs.Lists.{joinTo}
+use Rattle.walks.specs.Lists.{each}
 use Rattle.walks.specs.Order.{entriesIn, byEntry}
 use Rattle.ppda.specs.Equations as equations
 use Rattle.model.specs.Format.{mostEntries}
@@ -79,7 +79,7 @@ unfolding chanceLines
 returns c =
     let (all, few, so) = c .before .loop .inv in
     let (text, most) = joined-all so (c .loop-test .left) in
-    (put-as (ap (joinTo _) all) text, omega arith)
+    (put-as (ap (λ j. each j _) all) text, omega arith)
 
 pub put-chances-spec : {M : Type 1} → statement M
 put-chances-spec =

@@ -4,7 +4,7 @@ use native.Mathlib.Omega.{arith}
 use mathlib.Core.Path.{_≡_, ap, _∙_}
 use borrow.Author.Needs.{needs}
 use Rattle.text.proofs.Puts.{put-as, Joined, joined-none, joined-more, joined-all}
-use Rattle.walks.specs.Lists.{joinTo}
+use Rattle.walks.specs.Lists.{each}
 use Rattle.walks.specs.Order.{rowsIn, byRow}
 use Rattle.model.specs.Format.{mostRows}
 use Rattle.history.specs.Run.{replyOf}
@@ -62,7 +62,7 @@ unfolding stepsLines
 returns c =
     let (all, few, so) = c .before .loop .inv in
     let (text, most) = joined-all so (c .loop-test .left) in
-    (put-as (ap (joinTo _) all) text, omega arith)
+    (put-as (ap (λ j. each j _) all) text, omega arith)
 
 pub put-means-spec : {M : Type 1} → statement M
 put-means-spec =
