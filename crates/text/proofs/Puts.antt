@@ -60,6 +60,10 @@ pub joined-all : {h : ℕ → List ℕ} {k n : ℕ} {a b : List ℕ} {at e i : �
 joined-all {h} {n = n} {i = i} so done =
     let all : i ≡ n = omega arith in (put-as (ap (λ j. each j h) all) (so .join), rw (← all) (so .most))
 
+-- The same of as many lists by another number.
+pub joined-as : (h : ℕ → List ℕ) {n m : ℕ} {a b : List ℕ} {at e : ℕ} → n ≡ m → Put a b at e (each n h) → Put a b at e (each m h)
+joined-as h all text = put-as (ap (λ j. each j h) all) text
+
 -- A whole copy.
 pub put-paste : {a b : List ℕ} (at : ℕ) (t : List ℕ) (i : ℕ) → at + length t ≤ length a → i ≡ length t
     → b ≡ paste a at t i → Put a b at (at + length t) t

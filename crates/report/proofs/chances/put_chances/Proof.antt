@@ -4,8 +4,7 @@ use native.Mathlib.Omega.{arith}
 use mathlib.Core.Path.{_≡_, ap}
 use denote.Ref.{now}
 use borrow.Author.Needs.{needs}
-use Rattle.text.proofs.Puts.{put-as, Joined, joined-none, joined-more, joined-all}
-use Rattle.walks.specs.Lists.{each}
+use Rattle.text.proofs.Puts.{put-as, Joined, joined-none, joined-more, joined-all, joined-as}
 use Rattle.walks.specs.Order.{entriesIn, byEntry}
 use Rattle.ppda.specs.Equations as equations
 use Rattle.model.specs.Format.{mostEntries}
@@ -79,7 +78,7 @@ unfolding chanceLines
 returns c =
     let (all, few, so) = c .before .loop .inv in
     let (text, most) = joined-all so (c .loop-test .left) in
-    (put-as (ap (λ j. each j _) all) text, omega arith)
+    (joined-as _ all text, omega arith)
 
 pub put-chances-spec : {M : Type 1} → statement M
 put-chances-spec =

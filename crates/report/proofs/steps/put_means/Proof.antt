@@ -3,8 +3,7 @@ use Prim.Native.Nat.{_*_, _-_, _≤_}
 use native.Mathlib.Omega.{arith}
 use mathlib.Core.Path.{_≡_, ap, _∙_}
 use borrow.Author.Needs.{needs}
-use Rattle.text.proofs.Puts.{put-as, Joined, joined-none, joined-more, joined-all}
-use Rattle.walks.specs.Lists.{each}
+use Rattle.text.proofs.Puts.{Joined, joined-none, joined-more, joined-all, joined-as}
 use Rattle.walks.specs.Order.{rowsIn, byRow}
 use Rattle.model.specs.Format.{mostRows}
 use Rattle.history.specs.Run.{replyOf}
@@ -62,7 +61,7 @@ unfolding stepsLines
 returns c =
     let (all, few, so) = c .before .loop .inv in
     let (text, most) = joined-all so (c .loop-test .left) in
-    (put-as (ap (λ j. each j _) all) text, omega arith)
+    (joined-as _ all text, omega arith)
 
 pub put-means-spec : {M : Type 1} → statement M
 put-means-spec =
