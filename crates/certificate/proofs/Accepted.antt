@@ -1,6 +1,6 @@
 -- The verdict accepts exactly a model file with a delivery file for it, a refusal is that of the first test that fails, and its shortfall
 -- is never above zero.
-use Prim.Native.Nat.{ℕ, zero, suc, _-_, _*_, _^_, _≤_, _<_}
+use Prim.Native.Nat.{ℕ, zero, suc, _-_, _*_, _≤_, _<_}
 use native.Mathlib.Omega.{arith}
 use mathlib.Core.Bool.{Bool, true, false, not, cond, _&&_, _||_, true≢false, and-eq-true-iff}
 use mathlib.Core.List.{List, [], _∷_, _++_}
@@ -41,7 +41,7 @@ use Rattle.delivery.specs.Layout.{onlyIf, recordTests, upperRecords, lowerRecor
 use Rattle.delivery.proofs.Says.{Says, says-append, says-only, says-entries, says-rows, says-one, due-exactly, range-exactly, AtRecords, says-layout}
 use Rattle.inequalities.specs.Inequalities.{deadTest, upperTest, belowTest, lowerTest, meanTest, deadTests, upperTests, belowTests, lowerTests, meanTests}
 use Rattle.certificate.specs.Verdict.{numberTests, shapedTests, deliveryTests, verdict}
-use Rattle.certificate.specs.Accepted.{RecordDue, UppersRight, LowersRight, MeansRight, DeliveryFile, Filed}
+use Rattle.certificate.specs.Accepted.{RecordDue, UppersRight, LowersRight, MeansRight, DeliveryFile, RightFiles}
 
 -- ---- each test
 
@@ -209,7 +209,7 @@ passed-of-file b d h m r =
 
 -- ---- the verdict
 
-pub delivery-accepted : (b d : List ℕ) → (verdict b d ≡ Accepted) ↔ Filed b d
+pub delivery-accepted : (b d : List ℕ) → (verdict b d ≡ Accepted) ↔ RightFiles b d
 unfolding verdict modelVerdict
 delivery-accepted b d = (
   λ e. let passed = passed-append (modelTests b) (deliveryTests b d) .0 (accepted-exactly (modelTests b ++ deliveryTests b d) .0 e) in
@@ -237,10 +237,10 @@ unfolding verdict modelVerdict
 model-first b d = first-stands (modelTests b) (deliveryTests b d)
 
 -- An accepted delivery has the shape of its file, and no other.
-pub shaped-as : (b d : List ℕ) (x : Filed b d) (h : Shape) → shapeOf (statesOf b) (symbolsOf b) d ≡ Of h → x .shaped ≡ h
+pub shaped-as : (b d : List ℕ) (x : RightFiles b d) (h : Shape) → shapeOf (statesOf b) (symbolsOf b) d ≡ Of h → x .shaped ≡ h
 shaped-as b d x h e = let q = x .delivery .shape in cc
 
-pub same-shape : (b d : List ℕ) (x y : Filed b d) → x .shaped ≡ y .shaped
+pub same-shape : (b d : List ℕ) (x y : RightFiles b d) → x .shaped ≡ y .shaped
 same-shape b d x y = shaped-as b d x (y .shaped) (y .delivery .shape)
 
 -- ---- shortfalls

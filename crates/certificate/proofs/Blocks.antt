@@ -1,6 +1,6 @@
 -- The tests of a block of numbers, as the code goes through them: they read no number but those of the model's entries and rows, in the
 -- code's order they are the tests by (p, Z, q), and a part of a file that ends with a block stands for the block.
-use Prim.Native.Nat.{ℕ, _+_, _*_, _^_, _≤_, _<_}
+use Prim.Native.Nat.{ℕ, _+_, _*_, _≤_, _<_}
 use native.Mathlib.Nat.{zero-add}
 use native.Mathlib.Omega.{arith}
 use mathlib.Core.Bool.{Bool, true, false, cond}

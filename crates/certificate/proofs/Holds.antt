@@ -23,14 +23,14 @@ use Rattle.delivery.specs.declared.shape.Shaped.the-variants.{Of, Unknown}
 use Rattle.delivery.specs.Shapes.{hasLowers, hasMeans, shapeOf}
 use Rattle.delivery.specs.Numbers.{uppersOf, lowersOf, meansOf}
 use Rattle.certificate.specs.Verdict.{verdict}
-use Rattle.certificate.specs.Accepted.{Filed}
+use Rattle.certificate.specs.Accepted.{RightFiles}
 use Rattle.certificate.specs.declared.answer.Margin.the-variants.{Shown, Absent}
 use Rattle.certificate.specs.Margin.{marginOf, shownBy, shownMargin}
 use Rattle.certificate.proofs.Accepted.{live-exactly, dead-exactly, delivery-accepted, shaped-as}
 
 -- ---- what accepted files claim
 
-module _ (b d : List ℕ) (x : Filed b d) where
+module _ (b d : List ℕ) (x : RightFiles b d) where
   pub model-of : IsModel (statesOf b) (symbolsOf b) (rulesOf b)
   model-of = is-model b (x .model)
 
@@ -81,7 +81,7 @@ unfolding shownMargin
 shown-margin b d m = shown-by (verdict b d) (shapeOf (statesOf b) (symbolsOf b) d) (marginOf b d) m
 
 module _ (b d : List ℕ) (h : Shape) (accepted : verdict b d ≡ Accepted) (shape : shapeOf (statesOf b) (symbolsOf b) d ≡ Of h) where
-  filed : Filed b d
+  filed : RightFiles b d
   filed = delivery-accepted b d .0 accepted
 
   pub lower-of-shape : hasLowers h ≡ true

@@ -1,5 +1,5 @@
 -- The margin as the code works it out is the theory's, and an accepted delivery with lowers meets what the code asks for it.
-use Prim.Native.Nat.{ℕ, zero, suc, _^_, _<_, min}
+use Prim.Native.Nat.{ℕ, zero, suc, _<_, min}
 use native.Mathlib.Omega.{arith}
 use mathlib.Core.Bool.{true}
 use mathlib.Core.List.{List}

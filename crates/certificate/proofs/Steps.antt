@@ -1,6 +1,6 @@
 -- Steps of the code, over plain values: what it may take for granted of an accepted model and of numbers in range, and how the outcomes of
 -- its parts, found one after the other, make the outcome of all tests.
-use Prim.Native.Nat.{ℕ, _+_, _-_, _*_, _≤_, _<_}
+use Prim.Native.Nat.{ℕ, _+_, _-_, _*_, _≤_}
 use native.Mathlib.Omega.{arith}
 use mathlib.Core.Bool.{Bool, true, false, cond}
 use mathlib.Core.List.{List, _++_, append-assoc}
@@ -14,7 +14,7 @@ use Rattle.outcome.specs.declared.Reason.{Reason}
 use Rattle.outcome.specs.declared.Reason.the-variants.{NoShape}
 use Rattle.outcome.specs.declared.Outcome.{Outcome}
 use Rattle.outcome.specs.declared.Outcome.the-variants.{Accepted, Refused}
-use Rattle.outcome.specs.Tests.{Test, first}
+use Rattle.outcome.specs.Tests.{first}
 use Rattle.walks.specs.Lists.{each}
 use Rattle.outcome.proofs.Tests.{first-empty, first-refused, first-rest}
 use Rattle.ppda.specs.Live.{alive}
@@ -29,12 +29,12 @@ use Rattle.delivery.specs.declared.shape.Shaped.the-variants.{Of, Unknown}
 use Rattle.delivery.specs.Shapes.{hasLowers, hasMeans, meansFrom, shapeOf}
 use Rattle.walks.specs.Order.{entriesIn, rowsIn, eachEntry, eachRow}
 use Rattle.delivery.specs.Numbers.{uppersOf}
-use Rattle.delivery.specs.Layout.{onlyIf, layoutTests}
+use Rattle.delivery.specs.Layout.{layoutTests}
 use Rattle.delivery.specs.Walks.{Within}
 use Rattle.live.specs.Exits.{ExitsOf, exitMarks}
 use Rattle.model.specs.Accepted.{Sized}
 use Rattle.model.proofs.Accepted.{sized-model}
-use Rattle.inequalities.specs.Inequalities.{deadTests, upperTests, belowTests, lowerTests}
+use Rattle.inequalities.specs.Inequalities.{deadTests, belowTests, lowerTests}
 use Rattle.inequalities.specs.declared.sides.Side.the-variants.{Upper, StrictUpper, Lower}
 use Rattle.inequalities.specs.Walks.{deadAt, belowAt, sideAt, meanAt}
 use Rattle.inequalities.specs.Shares.{Strict, leastShare}

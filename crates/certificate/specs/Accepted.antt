@@ -56,7 +56,7 @@ pub record DeliveryFile (b d : List ℕ) (h : Shape) : Type 0 where
   pub means : hasMeans h ≡ true → MeansRight b (statesOf b) (symbolsOf b) h d
 
 -- A model file and a delivery file for it.
-pub record Filed (b d : List ℕ) : Type 0 where
+pub record RightFiles (b d : List ℕ) : Type 0 where
   pub model : ModelFile b
   pub shaped : Shape
   pub delivery : DeliveryFile b d shaped

@@ -18,18 +18,18 @@ use Rattle.certificate.specs.Verdict.{verdict}
 use Rattle.certificate.specs.Margin.{shownMargin}
 
 -- An outcome by document 01's numbers.
-pub data Answer : Type 0 where
-  accepted : Answer
-  refused : (number place : ℕ) (shortfall : ℤ) → Answer
+pub data DueAnswer : Type 0 where
+  accepted : DueAnswer
+  refused : (number place : ℕ) (shortfall : ℤ) → DueAnswer
 
-abbrev pub answerOf : Outcome → Answer
+abbrev pub answerOf : Outcome → DueAnswer
 answerOf Accepted = accepted
 answerOf (Refused r i k) = refused (numberOf r) i k
 
 -- What a case claims of a model and a delivery: the verdict, the margin shown, or that an entry of the model is dead: no run empties the
 -- stack there.
 pub data Claim : Type 0 where
-  verdictIs : (o : Answer) → Claim
+  verdictIs : (o : DueAnswer) → Claim
   marginIs : (m : ℕ) → Claim
   isDead : (p z q : ℕ) → Claim
 
@@ -95,20 +95,20 @@ edges =
 pub record Input : Type 0 where
   pub model : List ℕ
   pub delivery : List ℕ
-  pub due : Answer
+  pub due : DueAnswer
 
-abbrev pub input : List ℕ → List ℕ → Answer → Input
+abbrev pub input : List ℕ → List ℕ → DueAnswer → Input
 input b d o = record { model = b; delivery = d; due = o }
 
 -- A refusal that misses no inequality.
-abbrev pub refusedAt : ℕ → ℕ → Answer
+abbrev pub refusedAt : ℕ → ℕ → DueAnswer
 refusedAt n i = refused n i (pos 0)
 
 -- The answer to an input, and the answer that is due to it.
-abbrev pub answerTo : Input → Answer
+abbrev pub answerTo : Input → DueAnswer
 answerTo c = answerOf (verdict (c .model) (c .delivery))
 
-abbrev pub dueTo : Input → Answer
+abbrev pub dueTo : Input → DueAnswer
 dueTo c = c .due
 
 -- Bad input, each beside what is just right. Lengths: none, a byte short, a byte long. Each number of a model record out of range, unused

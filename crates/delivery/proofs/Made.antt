@@ -17,14 +17,13 @@ use Rattle.walks.proofs.Places.{row-below, entry-below}
 use Rattle.outcome.specs.declared.Outcome.the-variants.{Accepted}
 use Rattle.outcome.specs.Tests.{first}
 use Rattle.outcome.proofs.Tests.{accepted-exactly}
-use Rattle.walks.proofs.Sums.{last-or-below}
 use Rattle.delivery.specs.declared.shape.Block.{Block}
 use Rattle.delivery.specs.declared.shape.Block.the-variants.{Uppers, Lowers, Means}
 use Rattle.delivery.specs.declared.shape.Shape.{Shape}
 use Rattle.delivery.specs.declared.shape.Shape.the-variants.{U, UL, UR, ULR}
 use Rattle.delivery.specs.declared.shape.Shaped.the-variants.{Of}
 use Rattle.delivery.specs.Format.{recordBytes, valueByte}
-use Rattle.delivery.specs.Records.{byteOf, kindAt, stateAt, symbolAt, exitAt, valueAt, kindOf, leastOf, mostOf}
+use Rattle.delivery.specs.Records.{byteOf, kindAt, valueAt, kindOf, leastOf, mostOf}
 use Rattle.delivery.specs.Shapes.{hasLowers, hasMeans, meansFrom, recordsIn, shapeOf}
 use Rattle.walks.specs.Order.{entriesIn, rowsIn, entryAt, rowAt, eachRow, eachEntry}
 use Rattle.delivery.specs.Numbers.{uppersOf, lowersOf, meansOf}

@@ -1,19 +1,13 @@
 -- The values past the first records of a delivery.
-use Prim.Native.Nat.{ℕ, zero, suc, _+_, _*_, _/_, _%_, _<_}
-use native.Mathlib.Nat.{add-zero, add-suc, zero-mul, suc-mul}
+use Prim.Native.Nat.{ℕ, _+_, _*_}
 use native.Mathlib.Omega.{arith}
-use mathlib.Core.List.{List, _++_, append-nil, append-assoc}
-use mathlib.Core.Path.{_≡_, refl, sym, ap, ap₂, _∙_}
+use mathlib.Core.List.{List}
+use mathlib.Core.Path.{_≡_, ap, _∙_}
 use lib.ListN.{getD, drop}
 use lib.Seq.{getD-drop}
 use Rattle.words.specs.Words.{wordAt}
-use Rattle.walks.proofs.Places.{row-at}
-use Rattle.outcome.specs.Tests.{Test}
-use Rattle.walks.specs.Lists.{each}
-use Rattle.walks.proofs.Lists.{each-cong}
 use Rattle.delivery.specs.Format.{recordBytes, valueByte}
 use Rattle.delivery.specs.Records.{valueAt}
-use Rattle.walks.specs.Order.{entryAt, eachEntry, eachRow}
 
 word-past : (d : List ℕ) (n at to : ℕ) → n + at ≡ to → wordAt (drop n d) at ≡ wordAt d to
 unfolding wordAt

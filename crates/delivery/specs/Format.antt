@@ -1,6 +1,6 @@
 -- The format of a delivery file (document 01, "Deliveries"): each number stands here once, and under the same name in src/format.rt. The units and
 -- the ranges of values stand in crate ppda (Units.antt), since the theory speaks of them.
-use Prim.Native.Nat.{ℕ, _+_, _*_}
+use Prim.Native.Nat.{ℕ, _+_}
 use Rattle.model.specs.Format.{mostRows, mostEntries}
 
 -- A record is 8 bytes: kind, p, Z and q of one byte each, and the value of four, at these bytes of it.

@@ -5,7 +5,6 @@ use mathlib.Core.List.{List, [], _∷_, _++_}
 use lib.Dec.{eqb, leb}
 use Rattle.outcome.specs.declared.Reason.the-variants.{NotDue, ValueOutOfRange}
 use Rattle.outcome.specs.Tests.{Test, plain}
-use Rattle.walks.specs.Lists.{each}
 use Rattle.delivery.specs.declared.shape.Block.{Block}
 use Rattle.delivery.specs.declared.shape.Block.the-variants.{Uppers, Lowers, Means}
 use Rattle.delivery.specs.declared.shape.Shape.{Shape}

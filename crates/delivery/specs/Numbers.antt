@@ -1,5 +1,5 @@
 -- The numbers of a delivery as vectors: blocks ascend by (p, Z, q), mean steps by (p, Z).
-use Prim.Native.Nat.{ℕ, _+_, _*_}
+use Prim.Native.Nat.{ℕ, _+_}
 use mathlib.Core.List.{List}
 use Rattle.ppda.specs.Equations.{Vector, RowVector}
 use Rattle.delivery.specs.declared.shape.Shape.{Shape}

@@ -1,4 +1,4 @@
-// The format of a delivery file, each number under the name that specs/Format.antt gives it; and the units and ranges of its values, under the
+// The format of a delivery file, each number under the name that specs/Format.antt gives it (what its longest file takes, in bytes, only the buffer of crate files needs); and the units and ranges of its values, under the
 // names of specs/Units.antt of crate ppda.
 
 use model::format::MOST_ENTRIES;

@@ -1,5 +1,5 @@
 -- Names for what the functions work out from the bytes of a model and of blocks of a delivery.
-use Prim.Native.Nat.{ℕ, _*_, _/_, _%_}
+use Prim.Native.Nat.{ℕ, _*_}
 use mathlib.Core.List.{List}
 use Rattle.walks.specs.Order.{byRow}
 use Rattle.ppda.specs.Units.{chanceUnit, stepUnit}

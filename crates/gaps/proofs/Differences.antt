@@ -6,7 +6,7 @@ use lib.ListN.{length, take, getD}
 use Rattle.outcome.specs.declared.Outcome.the-variants.{Accepted}
 use Rattle.ppda.specs.Units.{chanceUnit, sumUnit}
 use Rattle.walks.specs.Order.{entriesIn, rowAt}
-use Rattle.ppda.specs.Equations.{entries, f, Same}
+use Rattle.ppda.specs.Equations.{f, Same}
 use Rattle.walks.proofs.Places.{row-at, entry-below}
 use Rattle.ppda.proofs.Vectors.{f-same}
 use Rattle.model.specs.declared.sizes.Sizes.{Sizes}

@@ -1,5 +1,5 @@
 -- What the register holds, as values: document 01's model and delivery, the delivery's shape beside its numbers ("Deliveries").
-use Prim.Native.Nat.{ℕ, _/_, _%_}
+use Prim.Native.Nat.{ℕ}
 use mathlib.Core.Bool.{Bool, true, false, cond, _&&_}
 use mathlib.Core.List.{List}
 use lib.Dec.{ltb, leb}

@@ -24,13 +24,13 @@ use Rattle.delivery.specs.Shapes.{hasLowers, hasMeans, shapeOf}
 use Rattle.delivery.specs.Numbers.{uppersOf, lowersOf, meansOf}
 use Rattle.model.specs.Accepted.{Sized}
 use Rattle.live.specs.Shown.{liveMark}
-use Rattle.certificate.specs.Accepted.{Filed}
+use Rattle.certificate.specs.Accepted.{RightFiles}
 use Rattle.certificate.specs.Margin.{marginOf}
 use Rattle.certificate.specs.Verdict.{verdict}
 use Rattle.certificate.proofs.Accepted.{delivery-accepted}
 use Rattle.certificate.proofs.Rest.{at-numbers}
 use Rattle.register.specs.declared.answer.Mark.the-variants.{Known, New}
-use Rattle.held.specs.Held.{shapeAs, listed, listedRows, noModel, modelHeld, numbersHeld, holdsModel}
+use Rattle.held.specs.Held.{listed, listedRows, noModel, modelHeld, numbersHeld, holdsModel}
 use Rattle.held.specs.Places.{hasRow, hasEntry, rowValue, entryValue}
 use Rattle.held.proofs.Listed.{listed-at, rows-at, filled-back}
 use Rattle.register.specs.Filing as Filing
@@ -138,7 +138,7 @@ module _ (b : List ℕ) (y : Option (List ℕ)) (right : Right (some b) y) where
 -- ---- a held delivery
 
 module _ (b d : List ℕ) (is : verdict b d ≡ Accepted) where
-  filed : Filed b d
+  filed : RightFiles b d
   filed = delivery-accepted b d .0 is
 
   model-is : modelVerdict b ≡ Accepted

@@ -12,7 +12,7 @@ use Rattle.ppda.specs.Live.{isLive, Live}
 use Rattle.ppda.specs.Margin.{whole, kept}
 use Rattle.model.specs.Rules.{rulesOf}
 use Rattle.model.specs.Accepted.{ModelFile}
-use Rattle.certificate.specs.Accepted.{Filed}
+use Rattle.certificate.specs.Accepted.{RightFiles}
 use Rattle.register.specs.declared.Register.{Register}
 use Rattle.register.specs.Filing.{cleared}
 use Rattle.history.specs.Calls.{Call, fileModel, fileDelivery, upper, lower, meanSteps, margin, live, accepted, value, refused, taken}
@@ -44,7 +44,7 @@ abbrev pub ModelTaken : List Call → Type 0
 ModelTaken cs = (b : List ℕ) → (replyTo cs (fileModel b) ≡ accepted) ↔ ((lastModel (history cs) ≡ none) × ModelFile b)
 
 abbrev pub DeliveryTaken : List Call → Type 0
-DeliveryTaken cs = (d : List ℕ) → (taken (replyTo cs (fileDelivery d)) ≡ true) ↔ ((b : List ℕ) × Holds cs b × Filed b d)
+DeliveryTaken cs = (d : List ℕ) → (taken (replyTo cs (fileDelivery d)) ≡ true) ↔ ((b : List ℕ) × Holds cs b × RightFiles b d)
 
 -- Point 3, for what the questions answer. "Every chance within n steps is at most the upper."
 abbrev pub UpperShown : List Call → Type 0

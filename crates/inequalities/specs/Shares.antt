@@ -1,5 +1,5 @@
 -- The margin as the code works it out, from the rows' marks and the block of uppers; and u − f(u), which every accepted upper leaves.
-use Prim.Native.Nat.{ℕ, _-_, _*_, _/_, _%_, _≤_, _<_}
+use Prim.Native.Nat.{ℕ, _-_, _*_, _<_}
 use mathlib.Core.Bool.{Bool, true}
 use mathlib.Core.List.{List}
 use mathlib.Core.Path.{_≡_}

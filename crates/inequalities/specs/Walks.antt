@@ -1,5 +1,5 @@
 -- Names for the tests as the code walks through them: row by row, and by exits within a row. Row number k is (k / g, k % g).
-use Prim.Native.Nat.{ℕ, _+_, _/_, _%_}
+use Prim.Native.Nat.{ℕ, _+_}
 use mathlib.Core.Bool.{Bool, true, false}
 use mathlib.Core.List.{List, [], _∷_}
 use Rattle.outcome.specs.Tests.{Test}

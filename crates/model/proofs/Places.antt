@@ -1,6 +1,6 @@
 -- The place of a refused model file: where the reason names a record, 11 to 14, it is a whole record of the file. It is below 65,536 in
 -- any case: a file that is too long is refused at place 0, and any other has at most 1,024 records and, where they are right, rows within their limit.
-use Prim.Native.Nat.{ℕ, _*_, _%_, _≤_, _<_}
+use Prim.Native.Nat.{ℕ, _%_, _≤_, _<_}
 use native.Mathlib.Omega.{arith}
 use mathlib.Core.Bool.{true, and-eq-true-iff}
 use mathlib.Core.List.{List}

@@ -1,25 +1,18 @@
 -- The laws of a model file's records, of its sizes, and of a row's sum over them.
-use Prim.Native.Nat.{ℕ, zero, suc, _+_, _-_, _*_, _≤_, _<_, max}
-use native.Mathlib.Nat.{not-suc-le-zero, eq-or-lt-of-le, le-of-suc-le-suc, le-refl, max-le, mul-le-mul}
+use Prim.Native.Nat.{ℕ, _+_, _-_, _*_, _≤_, _<_}
+use native.Mathlib.Nat.{max-le, mul-le-mul}
 use native.Mathlib.Numerals.{add-one}
 use native.Mathlib.Omega.{arith}
-use mathlib.Core.Bool.{Bool, true, false}
-use mathlib.Core.List.{List, [], _∷_}
-use mathlib.Core.Logic.{_⊎_, inl, inr}
-use mathlib.Core.Path.{_≡_, refl, sym, ap₂, _∙_}
-use lib.Dec.{eqb}
-use lib.ListN.{length, getD, length-append, List·getD-append}
-use lib.Seq.{ext-getD, getD-at}
-use borrow.Author.Tests.{eqb-true, eqb-false}
-use Rattle.walks.specs.Sums.{bit, sum, sumTo, In, greatestTo}
+use mathlib.Core.List.{List}
+use mathlib.Core.Path.{_≡_}
+use Rattle.walks.specs.Sums.{bit, sumTo, greatestTo}
 use Rattle.walks.specs.Order.{rowsIn, entriesIn}
 use Rattle.ppda.specs.Rules.{Rule, fits, overRow}
-use Rattle.walks.proofs.Sums.{sum-append, greatest-le, greatest-most}
-use Rattle.walks.proofs.Lists.{in-append-cases, listTo-sum}
+use Rattle.walks.proofs.Sums.{greatest-le, greatest-most}
+use Rattle.walks.proofs.Lists.{listTo-sum}
 use Rattle.model.specs.Format.{mostStates, mostSymbols, mostRows}
 use Rattle.model.specs.Records.{recordsOf, state, symbol, target, top, under, weight, stateNamed, symbolNamed, statesOf, symbolsOf}
 use Rattle.model.specs.Rules.{ruleOf, rulesOf}
-use Rattle.walks.specs.Lists.{listTo}
 use Rattle.model.specs.Accepted.{RecordRight}
 use Rattle.model.specs.Sizes.{Fits, Narrow}
 

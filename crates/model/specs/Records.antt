@@ -1,5 +1,5 @@
 -- The records of a model file, one after the other with no header.
-use Prim.Native.Nat.{ℕ, zero, suc, _+_, _*_, _/_, _≤_, max}
+use Prim.Native.Nat.{ℕ, suc, _+_, _*_, _/_, _≤_, max}
 use mathlib.Core.List.{List, [], _∷_}
 use lib.ListN.{length, getD}
 use Rattle.words.specs.Words.{wordAt}

@@ -1,6 +1,6 @@
 -- The rules that a model file says, for the theory of crate ppda.
 use Prim.Native.Nat.{ℕ, zero, suc, _*_}
-use mathlib.Core.List.{List, [], _∷_, _++_}
+use mathlib.Core.List.{List}
 use lib.Dec.{eqb}
 use Rattle.walks.specs.Sums.{bit, sumTo}
 use Rattle.walks.specs.Order.{rowAt}

@@ -1,6 +1,6 @@
 -- Live by rounds of f exactly when live by runs (document 01, "Equations").
 use Prim.Native.Nat.{ℕ, zero, suc, _*_, _<_}
-use native.Mathlib.Nat.{le-refl, le-trans, le-of-eq, mul-pos}
+use native.Mathlib.Nat.{le-refl, le-trans, mul-pos}
 use native.Mathlib.Omega.{arith}
 use mathlib.Core.Path.{_≡_, refl, sym, ap, _∙_, subst}
 use mathlib.Core.Bool.{Bool, true, false, cond}

@@ -1,7 +1,7 @@
 -- Marks by rounds of f: they agree in sign with the exact rounds, they only grow, and as many rounds as there are entries are enough
 -- (document 01, "Equations").
 use Prim.Native.Nat.{ℕ, zero, suc, _*_, _≤_, _<_}
-use native.Mathlib.Nat.{le-refl, le-trans, mul-pos, eq-zero-or-pos, not-suc-le-zero, eq-or-lt-of-le, le-antisymm}
+use native.Mathlib.Nat.{le-refl, le-trans, mul-pos, not-suc-le-zero, eq-or-lt-of-le, le-antisymm}
 use native.Mathlib.Omega.{arith}
 use mathlib.Core.Path.{_≡_, refl}
 use mathlib.Core.Bool.{Bool, true, false}

@@ -12,7 +12,6 @@ use Rattle.outcome.specs.declared.Outcome.{Outcome}
 use Rattle.outcome.specs.declared.Outcome.the-variants.{Accepted, Refused}
 use Rattle.outcome.specs.Tests.{isRefused}
 use Rattle.outcome.proofs.Tests.{not-refused}
-use Rattle.walks.specs.Sums.{allTo}
 use Rattle.walks.specs.Order.{entriesIn}
 use Rattle.walks.proofs.Sums.{all-exactly}
 use Rattle.model.specs.declared.sizes.Sizes.{Sizes}

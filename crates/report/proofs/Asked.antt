@@ -1,5 +1,5 @@
 -- Lines and counts by a register's answers, entry by entry, are those by its replies.
-use Prim.Native.Nat.{ℕ, _+_, _*_, _/_, _%_, _≤_, _<_}
+use Prim.Native.Nat.{ℕ, _+_, _*_, _/_, _%_, _≤_}
 use native.Mathlib.Nat.{div-add-mod'}
 use mathlib.Core.Bool.{Bool, cond}
 use mathlib.Core.List.{List, []}

@@ -3,7 +3,6 @@
 use lines::put_steps;
 use model::sizes::Sizes;
 use register::Register;
-ghost use mathlib.Core.Path.{_≡_};
 ghost use Prim.Native.Nat.{_+_, _*_, _≤_};
 ghost use lib.ListN.{length};
 ghost use Rattle.text.specs.Walks.{Put};

@@ -15,7 +15,7 @@ use Rattle.ppda.specs.Rules.{Push, nothing, one, two, fits, overRow}
 use Rattle.walks.proofs.Sums.{sumTo-step, sumTo-le, sumTo-mono}
 use Rattle.ppda.proofs.Rows.{row-const}
 use Rattle.model.specs.Format.{mostStates}
-use Rattle.model.specs.Records.{recordsOf, target, pushes, top, under, weight}
+use Rattle.model.specs.Records.{recordsOf, target, weight}
 use Rattle.model.specs.Rules.{pushOf, pushAt, ruleOf, rulesOf, rowOf}
 use Rattle.model.proofs.Records.{over-row}
 use Rattle.model.proofs.Rows.{row-fits}

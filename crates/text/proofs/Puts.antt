@@ -1,10 +1,9 @@
 -- Text in a buffer: texts that are put one after the other, by a loop too, are their join, and a loop that copies the text puts it.
-use Prim.Native.Nat.{ℕ, zero, suc, _+_, _*_, _≤_, _<_}
-use native.Mathlib.Nat.{add-zero, add-suc, zero-mul, suc-mul}
+use Prim.Native.Nat.{ℕ, _+_, _*_, _≤_, _<_}
 use native.Mathlib.Numerals.{add-one}
 use native.Mathlib.Omega.{arith}
 use mathlib.Core.List.{List, [], _∷_, _++_, map, append-assoc, append-nil}
-use mathlib.Core.Path.{_≡_, refl, sym, ap, ap₂, subst, _∙_}
+use mathlib.Core.Path.{_≡_, refl, sym, ap, subst, _∙_}
 use lib.ListN.{length, take, set, getD, length-append, length-set}
 use lib.Seq.{take-all, paste, length-paste, take-paste, take-suc, take-suc-set}
 use Rattle.text.specs.Decimal.{decimal}

@@ -5,6 +5,7 @@ use mathlib.Core.Path.{_≡_}
 use lib.ListN.{length, take}
 
 -- After the first `at` bytes of the buffer `before`, the buffer `after`, which is as long, has the text, which ends at byte `end`.
+-- What stands from there on is free.
 pub record Put (before after : List ℕ) (at end : ℕ) (text : List ℕ) : Type 0 where
   pub size : length after ≡ length before
   pub long : end ≡ at + length text

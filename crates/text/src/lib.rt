@@ -1,8 +1,7 @@
 // Text in a buffer of any length: each function puts its text at `at`, leaves what stands before it, and answers where it ends.
 
-ghost use mathlib.Core.Path.{_≡_};
 ghost use mathlib.Core.List.{[], _∷_, _++_};
-ghost use Prim.Native.Nat.{_+_, _*_, _≤_, _<_};
+ghost use Prim.Native.Nat.{_+_, _≤_, _<_};
 ghost use lib.ListN.{length};
 ghost use Rattle.text.specs.Decimal.{decimal, signed};
 ghost use Rattle.text.specs.Texts.{spaced};

@@ -1,6 +1,5 @@
 -- `shown`: the model's sizes and u − f(u) are those of the files.
 use mathlib.Core.Path.{subst}
-use denote.Ref.{now}
 use borrow.Author.Needs.{needs}
 use Rattle.model.proofs.Accepted.{sized-fits}
 use Rattle.certificate.proofs.Steps.{sized-by-verdict}

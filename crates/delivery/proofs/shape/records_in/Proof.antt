@@ -1,4 +1,4 @@
--- `records_in`: each way is that of the definition, and 2,048 + 128 is 2,176.
+-- `records_in`: each way is that of the definition, and the most records are those of the longest file.
 use native.Mathlib.Omega.{arith}
 use borrow.Author.Needs.{needs}
 use Rattle.delivery.specs.Shapes.{recordsIn}

@@ -1,7 +1,5 @@
 -- `value`: the entry's record is one of the block's.
-use Prim.Native.Nat.{_+_, _*_, _<_}
 use native.Mathlib.Omega.{arith}
-use borrow.Author.Needs.{needs}
 use Rattle.model.proofs.Records.{fits-narrow}
 use Rattle.delivery.specs.Numbers.{uppersOf}
 use Rattle.equations.proofs.chances.value.Statement.{statement}

@@ -1,8 +1,6 @@
 -- `model_of`: an accepted file fits, its states and symbols are few, and the live marks found are the definition's.
 use native.Mathlib.Omega.{arith}
-use mathlib.Core.Path.{refl}
 use borrow.Author.Needs.{needs}
-use denote.Ref.{now}
 use Rattle.model.specs.Sizes.{Fits}
 use Rattle.model.proofs.Accepted.{sized-by, sized-fits}
 use Rattle.held.proofs.Becomes.{model-fits, model-is}

@@ -1,5 +1,4 @@
 -- `has_row`: the tests are the definition's.
-use borrow.Author.Needs.{needs}
 use mathlib.Core.Path.{refl}
 use Rattle.held.specs.Places.{hasRow}
 use Rattle.held.proofs.places.has_row.Statement.{statement}

@@ -1,8 +1,6 @@
 -- `gap`: the entry's upper stands, so that f can be taken from it.
-use Prim.Native.Nat.{_*_, _≤_}
+use Prim.Native.Nat.{_≤_}
 use native.Mathlib.Omega.{arith}
-use mathlib.Core.Path.{_≡_}
-use borrow.Author.Needs.{needs}
 use Rattle.ppda.specs.Units.{mostChance}
 use Rattle.model.proofs.Records.{fits-narrow}
 use Rattle.model.proofs.Accepted.{sized-fits}

@@ -1,5 +1,5 @@
 -- `margin_of`: the least value carried is that of the rows passed, and all rows are all entries.
-use Prim.Native.Nat.{_*_, _-_, _≤_}
+use Prim.Native.Nat.{_-_, _≤_}
 use native.Mathlib.Omega.{arith}
 use mathlib.Core.Path.{_≡_}
 use borrow.Author.Needs.{needs}

@@ -1,5 +1,5 @@
 -- `check`: the loop returns at the first row that is refused, after every row before it has passed.
-use Prim.Native.Nat.{ℕ, _*_, _/_, _%_, _-_, _≤_}
+use Prim.Native.Nat.{ℕ, _/_, _%_, _-_, _≤_}
 use native.Mathlib.Omega.{arith}
 use mathlib.Core.List.{List}
 use mathlib.Core.Path.{_≡_, sym, ap, _∙_}

@@ -1,5 +1,5 @@
 -- `check_row`: the loop returns at the first entry that is refused, after every entry before it has passed.
-use Prim.Native.Nat.{_+_, _/_, _%_, _-_, _≤_}
+use Prim.Native.Nat.{_/_, _%_, _-_, _≤_}
 use native.Mathlib.Omega.{arith}
 use mathlib.Core.Path.{_≡_, sym, _∙_}
 use denote.Ref.{now}

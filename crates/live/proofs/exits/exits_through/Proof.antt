@@ -5,7 +5,7 @@ use mathlib.Core.Path.{_≡_, sym, ap, ap₂, _∙_}
 use borrow.Author.Needs.{needs}
 use Rattle.model.specs.Records.{target, top}
 use Rattle.model.proofs.Records.{fits-narrow}
-use Rattle.model.proofs.Accepted.{sized-fits, has-record, record-names}
+use Rattle.model.proofs.Accepted.{sized-fits, record-names}
 use Rattle.rows.proofs.Sums.{pushes-nothing, pushes-one, pushes-two}
 use Rattle.live.proofs.Bits.{through-nothing, through-one, through-two}
 use Rattle.live.proofs.exits.exits_through.Statement.{statement}

@@ -1,7 +1,7 @@
 -- `put_chances`: the text carried is the lines of the entries passed.
-use Prim.Native.Nat.{_*_, _-_, _≤_}
+use Prim.Native.Nat.{_-_, _≤_}
 use native.Mathlib.Omega.{arith}
-use mathlib.Core.Path.{_≡_, ap}
+use mathlib.Core.Path.{_≡_}
 use denote.Ref.{now}
 use borrow.Author.Needs.{needs}
 use Rattle.text.proofs.Puts.{put-as, Joined, joined-none, joined-more, joined-all, joined-as}

@@ -1,7 +1,7 @@
 -- `put_means`: the text carried is the lines of the rows passed.
-use Prim.Native.Nat.{_*_, _-_, _≤_}
+use Prim.Native.Nat.{_-_, _≤_}
 use native.Mathlib.Omega.{arith}
-use mathlib.Core.Path.{_≡_, ap, _∙_}
+use mathlib.Core.Path.{_≡_}
 use borrow.Author.Needs.{needs}
 use Rattle.text.proofs.Puts.{Joined, joined-none, joined-more, joined-all, joined-as}
 use Rattle.walks.specs.Order.{rowsIn, byRow}

@@ -1,9 +1,8 @@
 -- `entries`: as many for each row as there are states, and the sizes fit.
-use Prim.Native.Nat.{_*_, _≤_}
+use Prim.Native.Nat.{_*_}
 use native.Mathlib.Omega.{arith}
 use mathlib.Core.Path.{_≡_, ap}
 use borrow.Author.Needs.{needs}
-use Rattle.model.specs.Format.{mostEntries}
 use Rattle.model.proofs.sizes.Sizes.entries.Statement.{statement}
 use Rattle.model.proofs.sizes.Sizes.entries.Tie as tie
 
