@@ -1,5 +1,5 @@
-// The format of a delivery file, each number under the name that specs/Format.antt gives it (what its longest file takes, in bytes, only the buffer of crate files needs); and the units and ranges of its values, under the
-// names of specs/Units.antt of crate ppda.
+// The format of a delivery file, each number under the name that specs/Format.antt gives it; and the units and ranges of its values, under the
+// names of specs/Units.antt of crate ppda. Of the bytes of the longest file no definition speaks: a buffer that holds any accepted file needs them.
 
 use model::format::MOST_ENTRIES;
 use model::format::MOST_ROWS;
