@@ -69,15 +69,14 @@ pub fn find_marks(model: &[u8], starts: &[u16; STARTS], n: Sizes, marks: &mut [u
     ensures { λ _. ⌜ ExitsOf (n .states) (n .symbols) (alive (rulesOf (now (model .entry))) (n .states) (n .symbols)) (now (marks .exit)) ⌝ }
 {
     let rows = n.rows();
-    let most = n.entries();
+    let mut left = n.entries();
     let mut next = [0u8; MOST_ROWS];
-    let mut done = 0;
-    while done < most {
+    while 0 < left {
         round(model, starts, marks, &mut next, n);
         if same(marks, &next, rows) {
             return;
         }
         copy(&next, marks, rows);
-        done += 1;
+        left -= 1;
     }
 }
