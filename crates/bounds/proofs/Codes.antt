@@ -11,9 +11,9 @@ use Rattle.outcome.specs.declared.Outcome.{Outcome}
 use Rattle.outcome.specs.declared.Outcome.the-variants.{Accepted, Refused}
 use Rattle.outcome.specs.Reasons.{numberOf}
 use Rattle.outcome.proofs.Numbers.{number-some, number-small}
-use Rattle.model.specs.Verdict.{modelVerdict}
+use Rattle.wellformed.specs.Verdict.{modelVerdict}
 use Rattle.model.specs.W.{wFile}
-use Rattle.model.proofs.Places.{model-place}
+use Rattle.wellformed.proofs.Places.{model-place}
 use Rattle.certificate.specs.Verdict.{verdict}
 use Rattle.certificate.specs.Edges.{refused, answerOf, wDelivery}
 use Rattle.certificate.proofs.Edges.{edges-hold}

@@ -5,7 +5,7 @@ use outcome::Outcome;
 use outcome::number;
 ghost use mathlib.Core.Path.{_≡_};
 ghost use Prim.Native.Nat.{_<_};
-ghost use Rattle.model.specs.Verdict.{modelVerdict};
+ghost use Rattle.wellformed.specs.Verdict.{modelVerdict};
 ghost use Rattle.certificate.specs.Verdict.{verdict};
 ghost use Rattle.bounds.specs.Codes.{placeOf, codeOf, shortfallOf};
 
@@ -25,7 +25,7 @@ fn code(outcome: Outcome) -> u32
 pub extern "C" fn bounds_check_model(model: &[u8]) -> u32
     ensures { λ r. ⌜ r ≡ codeOf (modelVerdict (now (model .entry))) ⌝ }
 {
-    code(model::check(model))
+    code(wellformed::check(model))
 }
 
 // Checks a delivery with its model, which is tested first. (It calls the two checks itself, and not the one check of both: a call fewer.)
@@ -33,7 +33,7 @@ pub extern "C" fn bounds_check_model(model: &[u8]) -> u32
 pub extern "C" fn bounds_check_delivery(model: &[u8], delivery: &[u8]) -> u32
     ensures { λ r. ⌜ r ≡ codeOf (verdict (now (model .entry)) (now (delivery .entry))) ⌝ }
 {
-    let found = model::check(model);
+    let found = wellformed::check(model);
     if let Outcome::Refused { .. } = found {
         return code(found);
     }
@@ -45,7 +45,7 @@ pub extern "C" fn bounds_check_delivery(model: &[u8], delivery: &[u8]) -> u32
 pub extern "C" fn bounds_delivery_shortfall(model: &[u8], delivery: &[u8]) -> i64
     ensures { λ r. ⌜ r ≡ shortfallOf (verdict (now (model .entry)) (now (delivery .entry))) ⌝ }
 {
-    let found = model::check(model);
+    let found = wellformed::check(model);
     if let Outcome::Refused { shortfall, .. } = found {
         return shortfall;
     }

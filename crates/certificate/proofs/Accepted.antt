@@ -25,10 +25,11 @@ use Rattle.walks.proofs.Lists.{in-append-cases, in-append-right}
 use Rattle.ppda.proofs.Live.{live-by-rounds}
 use Rattle.model.specs.Records.{recordsOf, statesOf, symbolsOf}
 use Rattle.model.specs.Rules.{rulesOf}
-use Rattle.model.specs.Verdict as model
-use Rattle.model.specs.Verdict.{rowTests, rowsTests, modelTests, modelVerdict}
+use Rattle.wellformed.specs.Verdict as model
+use Rattle.wellformed.specs.Verdict.{rowTests, rowsTests, modelTests, modelVerdict}
 use Rattle.model.specs.Accepted.{ModelFile}
-use Rattle.model.proofs.Accepted.{model-accepted, is-model}
+use Rattle.model.proofs.Accepted.{is-model}
+use Rattle.wellformed.proofs.Accepted.{model-accepted}
 use Rattle.delivery.specs.declared.shape.Block.{Block}
 use Rattle.delivery.specs.declared.shape.Block.the-variants.{Uppers, Lowers, Means}
 use Rattle.delivery.specs.declared.shape.Shape.{Shape}
@@ -37,8 +38,9 @@ use Rattle.delivery.specs.declared.shape.Shaped.the-variants.{Of, Unknown}
 use Rattle.walks.specs.Order.{rowsIn, AtEntries, eachEntry, eachRow}
 use Rattle.delivery.specs.Shapes.{hasLowers, hasMeans, shapeOf}
 use Rattle.delivery.specs.Numbers.{uppersOf, lowersOf, meansOf}
-use Rattle.delivery.specs.Layout.{onlyIf, recordTests, upperRecords, lowerRecords, meanRecords, layoutTests}
-use Rattle.delivery.proofs.Says.{Says, says-append, says-only, says-entries, says-rows, says-one, due-exactly, range-exactly, AtRecords, says-layout}
+use Rattle.layout.specs.Layout.{onlyIf, recordTests, upperRecords, lowerRecords, meanRecords, layoutTests}
+use Rattle.delivery.proofs.Due.{due-exactly, range-exactly, AtRecords}
+use Rattle.layout.proofs.Says.{Says, says-append, says-only, says-entries, says-rows, says-one, says-layout}
 use Rattle.inequalities.specs.Inequalities.{deadTest, upperTest, belowTest, lowerTest, meanTest, deadTests, upperTests, belowTests, lowerTests, meanTests}
 use Rattle.certificate.specs.Verdict.{numberTests, shapedTests, deliveryTests, verdict}
 use Rattle.certificate.specs.Accepted.{RecordDue, UppersRight, LowersRight, MeansRight, DeliveryFile, RightFiles}

@@ -23,7 +23,7 @@ use Rattle.model.specs.Rules.{rulesOf}
 use Rattle.delivery.specs.Records.{valueAt}
 use Rattle.walks.specs.Order.{entriesIn, entryAt, rowAt, eachEntry, eachRow}
 use Rattle.delivery.specs.Numbers.{uppersOf, rowsOfBlock}
-use Rattle.delivery.specs.Walks.{Within}
+use Rattle.delivery.specs.Blocks.{Within}
 use Rattle.walks.proofs.Orders.{entries-by-number}
 use Rattle.live.specs.Exits.{exitMarks}
 use Rattle.walks.proofs.Places.{entry-below}

@@ -16,21 +16,23 @@ use Rattle.ppda.specs.Live.{mark, isLive, alive, Live}
 use Rattle.ppda.specs.Margin.{share, shareAt, margin}
 use Rattle.model.specs.Records.{recordsOf, field, weight, statesOf, symbolsOf}
 use Rattle.model.specs.Rules.{ruleOf, rulesOf, rowOf, rowSum}
-use Rattle.model.specs.Verdict.{wholeRecords, rangeAt, unusedAt, weightAt, ascends, recordTests, rowTests, rowsTests, modelTests, modelVerdict}
+use Rattle.wellformed.specs.Verdict.{wholeRecords, rangeAt, unusedAt, weightAt, ascends, recordTests, rowTests, rowsTests, modelTests, modelVerdict}
 use Rattle.model.specs.Made.{modelRecord, madeModel}
 use Rattle.model.specs.W.{wFile}
 use Rattle.delivery.specs.Records.{byteOf, valueAt}
 use Rattle.delivery.specs.Shapes.{meansFrom, recordsIn, longAs, lowersOrMeans, shapeOf}
 use Rattle.delivery.specs.Numbers.{uppersOf, lowersOf, meansOf}
-use Rattle.delivery.specs.Layout as layout
+use Rattle.layout.specs.Layout as layout
 use Rattle.certificate.specs.Verdict as verdict
-use Rattle.delivery.specs.Layout.{isDue, inRange, upperRecords, lowerRecords, meanRecords, layoutTests}
+use Rattle.delivery.specs.Records.{isDue, inRange}
+use Rattle.layout.specs.Layout.{upperRecords, lowerRecords, meanRecords, layoutTests}
 use Rattle.walks.specs.Order.{eachEntry, eachRow}
 use Rattle.inequalities.specs.Inequalities.{deadTest, upperTest, belowTest, lowerTest, meanTest, deadTests, upperTests, belowTests, lowerTests, meanTests}
 use Rattle.certificate.specs.Verdict.{numberTests, shapedTests, deliveryTests}
 use Rattle.certificate.specs.Margin.{marginOf, shownMargin}
 use Rattle.certificate.specs.Edges.{zToZ, AllHold, wDelivery, edges, answerTo, dueTo, badInputs, failTwice, placesAndEnds, greatest, lastUpper}
-use Rattle.model.proofs.Accepted.{model-accepted, is-model}
+use Rattle.model.proofs.Accepted.{is-model}
+use Rattle.wellformed.proofs.Accepted.{model-accepted}
 use Rattle.certificate.proofs.Accepted.{dead-exactly}
 
 -- An entry of an accepted model is dead where its mark says so.

@@ -18,9 +18,9 @@ use Rattle.walks.proofs.Places.{row-below, entry-below}
 use Rattle.model.specs.Records.{recordsOf, statesOf, symbolsOf}
 use Rattle.model.specs.Sizes.{Fits}
 use Rattle.model.proofs.Records.{sizes-fit}
-use Rattle.model.specs.Verdict.{modelVerdict, modelTests}
-use Rattle.model.proofs.Accepted.{model-accepted}
-use Rattle.model.proofs.Places.{model-places}
+use Rattle.wellformed.specs.Verdict.{modelVerdict, modelTests}
+use Rattle.wellformed.proofs.Accepted.{model-accepted}
+use Rattle.wellformed.proofs.Places.{model-places}
 use Rattle.delivery.specs.declared.shape.Block.{Block}
 use Rattle.delivery.specs.declared.shape.Block.the-variants.{Uppers, Lowers, Means}
 use Rattle.delivery.specs.declared.shape.Shape.{Shape}
@@ -29,7 +29,7 @@ use Rattle.delivery.specs.declared.shape.Shaped.{Shaped}
 use Rattle.delivery.specs.declared.shape.Shaped.the-variants.{Of, Unknown}
 use Rattle.delivery.specs.Shapes.{hasLowers, hasMeans, meansFrom, recordsIn, shapeOf}
 use Rattle.walks.specs.Order.{entriesIn, entryAt, rowAt, eachEntry, eachRow}
-use Rattle.delivery.specs.Layout.{onlyIf, recordTests, upperRecords, lowerRecords, meanRecords, layoutTests}
+use Rattle.layout.specs.Layout.{onlyIf, recordTests, upperRecords, lowerRecords, meanRecords, layoutTests}
 use Rattle.delivery.proofs.Shapes.{shape-long, uppers-fit, lowers-fit, means-fit}
 use Rattle.inequalities.specs.Inequalities.{deadTest, upperTest, belowTest, lowerTest, meanTest, deadTests, upperTests, belowTests, lowerTests, meanTests}
 use Rattle.certificate.specs.Verdict.{numberTests, shapedTests, deliveryTests, verdict}

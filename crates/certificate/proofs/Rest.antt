@@ -22,10 +22,10 @@ use Rattle.delivery.specs.Records.{valueAt}
 use Rattle.delivery.specs.Shapes.{hasLowers, hasMeans, meansFrom, recordsIn, shapeOf}
 use Rattle.walks.specs.Order.{entriesIn, rowsIn, entryAt, rowAt, AtEntries, AtRows}
 use Rattle.delivery.specs.Numbers.{uppersOf, lowersOf, meansOf, rowsOfBlock}
-use Rattle.delivery.specs.Layout.{layoutTests}
-use Rattle.delivery.specs.Walks.{Within}
+use Rattle.layout.specs.Layout.{layoutTests}
+use Rattle.delivery.specs.Blocks.{Within}
 use Rattle.delivery.proofs.Shapes.{shape-long, uppers-fit, lowers-fit}
-use Rattle.delivery.proofs.Walks.{rest-value}
+use Rattle.delivery.proofs.Values.{rest-value}
 use Rattle.inequalities.specs.Inequalities.{deadTests}
 use Rattle.certificate.specs.Verdict.{numberTests}
 use Rattle.certificate.specs.Rest.{RestRead, meansBlock, restMeans, restTests}

@@ -22,15 +22,15 @@ use Rattle.model.specs.declared.sizes.Sizes.{Sizes}
 use Rattle.model.specs.Records.{statesOf, symbolsOf}
 use Rattle.model.specs.Sizes.{sizesOf}
 use Rattle.model.specs.Rules.{rulesOf}
-use Rattle.model.specs.Verdict.{modelTests, modelVerdict}
+use Rattle.wellformed.specs.Verdict.{modelTests, modelVerdict}
 use Rattle.delivery.specs.declared.shape.Shape.{Shape}
 use Rattle.delivery.specs.declared.shape.Shaped.{Shaped}
 use Rattle.delivery.specs.declared.shape.Shaped.the-variants.{Of, Unknown}
 use Rattle.delivery.specs.Shapes.{hasLowers, hasMeans, meansFrom, shapeOf}
 use Rattle.walks.specs.Order.{entriesIn, rowsIn, eachEntry, eachRow}
 use Rattle.delivery.specs.Numbers.{uppersOf}
-use Rattle.delivery.specs.Layout.{layoutTests}
-use Rattle.delivery.specs.Walks.{Within}
+use Rattle.layout.specs.Layout.{layoutTests}
+use Rattle.delivery.specs.Blocks.{Within}
 use Rattle.live.specs.Exits.{ExitsOf, exitMarks}
 use Rattle.model.specs.Accepted.{Sized}
 use Rattle.model.proofs.Accepted.{sized-model}

@@ -18,8 +18,8 @@ use Rattle.delivery.specs.declared.shape.Shaped.the-variants.{Of}
 use Rattle.delivery.specs.Format.{recordBytes}
 use Rattle.delivery.specs.Shapes.{hasLowers, hasMeans, meansFrom, shapeOf}
 use Rattle.delivery.specs.Numbers.{uppersOf, rowsOfBlock}
-use Rattle.delivery.specs.Layout.{onlyIf, layoutTests}
-use Rattle.delivery.specs.Walks.{Within, Chances}
+use Rattle.layout.specs.Layout.{onlyIf, layoutTests}
+use Rattle.delivery.specs.Blocks.{Within, Chances}
 use Rattle.rows.specs.Starts.{Indexed}
 use Rattle.live.specs.Exits.{exitMarks}
 use Rattle.inequalities.specs.Inequalities.{deadTests, upperTests, belowTests, lowerTests, meanTests}

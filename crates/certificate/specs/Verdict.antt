@@ -8,14 +8,14 @@ use Rattle.outcome.specs.Tests.{Test, plain, first}
 use Rattle.ppda.specs.Live.{alive}
 use Rattle.model.specs.Records.{statesOf, symbolsOf}
 use Rattle.model.specs.Rules.{rulesOf}
-use Rattle.model.specs.Verdict.{modelTests}
+use Rattle.wellformed.specs.Verdict.{modelTests}
 use Rattle.delivery.specs.declared.shape.Shape.{Shape}
 use Rattle.delivery.specs.declared.shape.Shaped.{Shaped}
 use Rattle.delivery.specs.declared.shape.Shaped.the-variants.{Of, Unknown}
 use Rattle.delivery.specs.Shapes.{hasLowers, hasMeans, meansFrom, shapeOf}
 use Rattle.walks.specs.Order.{entriesIn}
 use Rattle.delivery.specs.Numbers.{uppersOf, lowersOf, meansOf}
-use Rattle.delivery.specs.Layout.{onlyIf, layoutTests}
+use Rattle.layout.specs.Layout.{onlyIf, layoutTests}
 use Rattle.inequalities.specs.Inequalities.{deadTests, upperTests, belowTests, lowerTests, meanTests}
 
 -- Each of these over the whole file before the next, for a file d of shape h beside the model b.

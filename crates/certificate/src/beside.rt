@@ -1,7 +1,6 @@
 // A delivery beside an accepted model, for `check` and for the calls of C hosts.
 
 use super::numbers;
-use delivery::layout;
 use delivery::shape::Shape;
 use delivery::shape::Shaped;
 use delivery::shape::shape_of;
@@ -13,7 +12,7 @@ use outcome::refused;
 ghost use mathlib.Core.Path.{_≡_};
 ghost use Rattle.outcome.specs.Tests.{first};
 ghost use Rattle.outcome.specs.declared.Outcome.the-variants.{Accepted};
-ghost use Rattle.model.specs.Verdict.{modelVerdict};
+ghost use Rattle.wellformed.specs.Verdict.{modelVerdict};
 ghost use Rattle.delivery.specs.declared.shape.Shaped.the-variants.{Of};
 ghost use Rattle.certificate.specs.Verdict.{shapedTests, verdict};
 ghost use Rattle.certificate.specs.Rest.{SizedFile};

@@ -22,7 +22,7 @@ ghost use Rattle.certificate.specs.Shown.{shapeIn};
 pub fn check(model: &[u8], delivery: &[u8]) -> Outcome
     ensures { λ r. ⌜ r ≡ verdict (now (model .entry)) (now (delivery .entry)) ⌝ }
 {
-    let found = model::check(model);
+    let found = wellformed::check(model);
     if let Outcome::Refused { .. } = found {
         return found;
     }
@@ -33,7 +33,7 @@ pub fn check(model: &[u8], delivery: &[u8]) -> Outcome
 pub fn shape(model: &[u8], delivery: &[u8]) -> Shaped
     ensures { λ r. ⌜ r ≡ shapeIn (now (model .entry)) (now (delivery .entry)) ⌝ }
 {
-    let found = model::check(model);
+    let found = wellformed::check(model);
     if let Outcome::Refused { .. } = found {
         return Shaped::Unknown;
     }

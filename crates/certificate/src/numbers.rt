@@ -18,7 +18,7 @@ use rows::find_starts;
 ghost use mathlib.Core.Path.{_≡_};
 ghost use Rattle.outcome.specs.Tests.{first};
 ghost use Rattle.model.specs.Sizes.{Fits};
-ghost use Rattle.delivery.specs.Walks.{Chances};
+ghost use Rattle.delivery.specs.Blocks.{Chances};
 ghost use Rattle.rows.specs.Starts.{Indexed};
 ghost use Rattle.certificate.specs.Verdict.{numberTests};
 ghost use Rattle.certificate.specs.Rest.{LaidOut, LowersRead, RestOf, deadPart, upperPart, lowerPart, meanPart, restPart};

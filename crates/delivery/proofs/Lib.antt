@@ -1,7 +1,5 @@
--- The laws of a delivery file: its sizes, what its shape means, its tests and values in the order in which the code meets them, and
--- files made of numbers.
+-- The laws of a delivery file: its shapes, the values past its first records, which record is due where, and files made of numbers.
 pub mod Shapes
-pub mod Walks
-pub mod Blocks
-pub mod Says
+pub mod Values
+pub mod Due
 pub mod Made

@@ -1,5 +1,5 @@
--- A file made of numbers has its shape, passes the layout's tests and gives the numbers back, and a file with a right layout is the one made
--- of its numbers: every record is eight bytes, so that record e of a block lies 8 × e bytes behind the block's start.
+-- A file made of numbers has its shape and the records due, and gives the numbers back, and a file with the records due is the one made of its
+-- numbers: every record is eight bytes, so that record e of a block lies 8 × e bytes behind the block's start.
 use Prim.Native.Nat.{ℕ, zero, suc, _+_, _*_, _≤_, _<_, _^_}
 use native.Mathlib.Nat.{add-zero, zero-add, add-assoc, zero-mul, eq-or-lt-of-le}
 use native.Mathlib.Omega.{arith}
@@ -14,22 +14,18 @@ use Rattle.words.proofs.Words.{bytes-none, bytes-cons, bytes-append, four-are-b
 use Rattle.ppda.specs.Equations.{Vector, RowVector}
 use Rattle.walks.specs.Lists.{each}
 use Rattle.walks.proofs.Places.{row-below, entry-below}
-use Rattle.outcome.specs.declared.Outcome.the-variants.{Accepted}
-use Rattle.outcome.specs.Tests.{first}
-use Rattle.outcome.proofs.Tests.{accepted-exactly}
 use Rattle.delivery.specs.declared.shape.Block.{Block}
 use Rattle.delivery.specs.declared.shape.Block.the-variants.{Uppers, Lowers, Means}
 use Rattle.delivery.specs.declared.shape.Shape.{Shape}
 use Rattle.delivery.specs.declared.shape.Shape.the-variants.{U, UL, UR, ULR}
 use Rattle.delivery.specs.declared.shape.Shaped.the-variants.{Of}
 use Rattle.delivery.specs.Format.{recordBytes, valueByte}
-use Rattle.delivery.specs.Records.{byteOf, kindAt, valueAt, kindOf, leastOf, mostOf}
+use Rattle.delivery.specs.Records.{byteOf, kindAt, valueAt, kindOf, leastOf, mostOf, isDue, inRange}
 use Rattle.delivery.specs.Shapes.{hasLowers, hasMeans, meansFrom, recordsIn, shapeOf}
 use Rattle.walks.specs.Order.{entriesIn, rowsIn, entryAt, rowAt, eachRow, eachEntry}
 use Rattle.delivery.specs.Numbers.{uppersOf, lowersOf, meansOf}
-use Rattle.delivery.specs.Layout.{isDue, inRange, layoutTests}
 use Rattle.delivery.proofs.Shapes.{one-state, shape-long, shape-found, one-state-lowers, one-state-means, one-state-alone, one-state-both, uppers-fit, lowers-fit, means-fit}
-use Rattle.delivery.proofs.Says.{AtRecords, says-record, says-layout, due-exactly, range-exactly}
+use Rattle.delivery.proofs.Due.{AtRecords, due-exactly, range-exactly}
 use Rattle.delivery.specs.Made.{deliveryRecord, entryRecords, rowRecords, madeDelivery, NumbersFit}
 use Rattle.walks.proofs.Lists.{length-each, getD-each}
 
@@ -229,18 +225,17 @@ module _ (s g : ℕ) (h : Shape) (u l : Vector) (r : RowVector) where
   unfolding meansOf
   means-of-made e p z hp hz = value-said (mean-stands s g h u l r e p z hp hz)
 
-  -- With numbers in range the layout passes.
-  pub layout-of-made : NumbersFit s g h u l r → first (layoutTests s g h (madeDelivery s g h u l r)) ≡ Accepted
-  layout-of-made fit =
-      accepted-exactly (layoutTests s g h (madeDelivery s g h u l r)) .1 (
-      says-layout s g h (madeDelivery s g h u l r) (says-record (madeDelivery s g h u l r)) .exactly .1 (
-        λ p z q hp hz hq. right (upper-stands s g h u l r p z q hp hz hq) (omega arith) (fit .uppers p z q hp hz hq),
-        (
-          λ e p z q hp hz hq. right (lower-stands s g h u l r e p z q hp hz hq) (omega arith) (fit .lowers e p z q hp hz hq),
-          λ e p z hp hz. right (mean-stands s g h u l r e p z hp hz) (fit .means e p z hp hz .0) (fit .means e p z hp hz .1),
-        ),
-      )
-      )
+  -- With numbers in range every record is the one due and in range.
+  pub right-of-made : NumbersFit s g h u l r
+      → AtRecords s g h (λ i k p z q.
+      (isDue (madeDelivery s g h u l r) i k p z q ≡ true) × (inRange (madeDelivery s g h u l r) i k ≡ true))
+  right-of-made fit = (
+    λ p z q hp hz hq. right (upper-stands s g h u l r p z q hp hz hq) (omega arith) (fit .uppers p z q hp hz hq),
+    (
+      λ e p z q hp hz hq. right (lower-stands s g h u l r e p z q hp hz hq) (omega arith) (fit .lowers e p z q hp hz hq),
+      λ e p z hp hz. right (mean-stands s g h u l r e p z hp hz) (fit .means e p z hp hz .0) (fit .means e p z hp hz .1),
+    ),
+  )
     where
       small : (k : Block) → mostOf k < 2 ^ 32
       small Uppers = omega arith
@@ -383,31 +378,28 @@ part-if : (t : Bool) (d x : List ℕ) (at n : ℕ) → (t ≡ true → x ≡ tak
 part-if true d x at n part = part refl
 part-if false d x at n part = refl
 
--- A file with a right layout is the one made of its numbers.
-pub made-of-delivery : (s g : ℕ) (h : Shape) (d : List ℕ) → shapeOf s g d ≡ Of h → first (layoutTests s g h d) ≡ Accepted → Bytes d
+-- A file with the records due is the one made of its numbers.
+pub made-of-due : (s g : ℕ) (h : Shape) (d : List ℕ) → shapeOf s g d ≡ Of h → AtRecords s g h (λ i k p z q. isDue d i k p z q ≡ true) → Bytes d
     → madeDelivery s g h (uppersOf s g d) (lowersOf s g d) (meansOf s g h d) ≡ d
 unfolding madeDelivery uppersOf lowersOf meansOf
-made-of-delivery s g h d of accepted bytes =
+made-of-due s g h d of due bytes =
     ap₂ _++_ uppers (ap₂ _++_ lowers means)
     ∙ three-parts d (recordBytes * entriesIn s g) (lowerBytes s g h) (meanBytes s g h) (shape-long s g d h of ∙ whole-file s g h)
   where
-    right : AtRecords s g h (λ i k p z q. (isDue d i k p z q ≡ true) × (inRange d i k ≡ true))
-    right = says-layout s g h d (says-record d) .exactly .0 (accepted-exactly (layoutTests s g h d) .0 accepted)
-
     uppers : entryRecords s g Uppers (uppersOf s g d) ≡ take (recordBytes * entriesIn s g) d
     uppers =
         block-back d bytes s g Uppers (uppersOf s g d) 0 (rw zero-add (uppers-fit s g d h of))
-        (λ p z q hp hz hq. rw zero-add (right .0 p z q hp hz hq .0, refl))
+        (λ p z q hp hz hq. rw zero-add (due .0 p z q hp hz hq, refl))
 
     lowers : cond (hasLowers h) (entryRecords s g Lowers (lowersOf s g d)) [] ≡ take (lowerBytes s g h) (drop (recordBytes * entriesIn s g) d)
     lowers =
         part-if (hasLowers h) d _ (recordBytes * entriesIn s g) (recordBytes * entriesIn s g) (λ e.
         block-back d bytes s g Lowers (lowersOf s g d) (entriesIn s g) (lowers-fit s g d h of e)
-        (λ p z q hp hz hq. (right .1 .0 e p z q hp hz hq .0, refl)))
+        (λ p z q hp hz hq. (due .1 .0 e p z q hp hz hq, refl)))
 
     means : cond (hasMeans h) (rowRecords s g (meansOf s g h d)) [] ≡ take (meanBytes s g h) (drop (recordBytes * entriesIn s g + lowerBytes s g h) d)
     means =
         part-if (hasMeans h) d _ (recordBytes * entriesIn s g + lowerBytes s g h) (recordBytes * rowsIn s g) (λ e.
         rows-back d bytes s g (meansOf s g h d) (meansFrom s g h) (means-fit s g d h of e)
-        (λ p z hp hz. (right .1 .1 e p z hp hz .0, refl))
+        (λ p z hp hz. (due .1 .1 e p z hp hz, refl))
         ∙ ap (λ n. take (recordBytes * rowsIn s g) (drop n d)) (before-means s g h))

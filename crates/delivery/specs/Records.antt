@@ -1,6 +1,8 @@
 -- The records of a delivery file.
 use Prim.Native.Nat.{ℕ, _+_, _*_, _≤_}
+use mathlib.Core.Bool.{Bool, _&&_}
 use mathlib.Core.List.{List}
+use lib.Dec.{eqb, leb}
 use lib.ListN.{length, getD}
 use Rattle.words.specs.Words.{wordAt}
 use Rattle.ppda.specs.Units.{mostChance, leastMean, mostMean}
@@ -49,3 +51,10 @@ abbrev pub mostOf : Block → ℕ
 mostOf Uppers = mostChance
 mostOf Lowers = mostChance
 mostOf Means = mostMean
+
+-- Record i has the kind of the block and the p, Z, q due there, and its value is in the block's range.
+unfoldable pub isDue : List ℕ → ℕ → Block → ℕ → ℕ → ℕ → Bool
+isDue d i k p z q = eqb (kindAt d i) (kindOf k) && (eqb (stateAt d i) p && (eqb (symbolAt d i) z && eqb (exitAt d i) q))
+
+unfoldable pub inRange : List ℕ → ℕ → Block → Bool
+inRange d i k = leb (leastOf k) (valueAt d i) && leb (valueAt d i) (mostOf k)

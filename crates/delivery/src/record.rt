@@ -1,4 +1,4 @@
-// One record of a delivery: its numbers, by the names of specs/Records.antt, and its tests.
+// One record of a delivery: its numbers, by the names of specs/Records.antt, and whether it is the one due.
 
 use super::format::EXIT_BYTE;
 use super::format::KIND_BYTE;
@@ -13,15 +13,10 @@ use super::format::SYMBOL_BYTE;
 use super::format::UPPER_KIND;
 use super::format::VALUE_BYTE;
 use super::shape::Block;
-use outcome::Outcome;
-use outcome::Reason;
-use outcome::refused;
 ghost use mathlib.Core.Path.{_≡_};
 ghost use Prim.Native.Nat.{_<_, _^_};
-ghost use Rattle.outcome.specs.Tests.{first};
 ghost use Rattle.delivery.specs.Format.{recordBytes};
-ghost use Rattle.delivery.specs.Records.{HasRecord, byteOf, kindAt, stateAt, symbolAt, exitAt, valueAt, kindOf, leastOf, mostOf};
-ghost use Rattle.delivery.specs.Layout.{isDue, inRange, recordTests};
+ghost use Rattle.delivery.specs.Records.{HasRecord, byteOf, kindAt, stateAt, symbolAt, exitAt, valueAt, kindOf, leastOf, mostOf, isDue, inRange};
 
 // Byte k of record i.
 fn byte_of(delivery: &[u8], i: usize, k: usize) -> usize
@@ -105,7 +100,7 @@ fn most(block: Block) -> u64
 }
 
 // Whether record i has the kind, p, Z and q due there.
-fn is_due(delivery: &[u8], i: usize, block: Block, p: usize, z: usize, q: usize) -> bool
+pub fn is_due(delivery: &[u8], i: usize, block: Block, p: usize, z: usize, q: usize) -> bool
     requires { ⌜ HasRecord (now delivery) i ⌝ }
     ensures { λ r. ⌜ r ≡ isDue (now (delivery .entry)) i block p z q ⌝ }
 {
@@ -117,31 +112,10 @@ fn is_due(delivery: &[u8], i: usize, block: Block, p: usize, z: usize, q: usize)
 }
 
 // Whether the value of record i is in the block's range.
-fn in_range(delivery: &[u8], i: usize, block: Block) -> bool
+pub fn in_range(delivery: &[u8], i: usize, block: Block) -> bool
     requires { ⌜ HasRecord (now delivery) i ⌝ }
     ensures { λ r. ⌜ r ≡ inRange (now (delivery .entry)) i block ⌝ }
 {
     let v = value_at(delivery, i);
     (least(block) <= v) & (v <= most(block))
-}
-
-// The tests of record i, in their order.
-pub(crate) fn check(
-    delivery: &[u8],
-    i: usize,
-    block: Block,
-    p: usize,
-    z: usize,
-    q: usize,
-) -> Outcome
-    requires { ⌜ HasRecord (now delivery) i ⌝ }
-    ensures { λ r. ⌜ r ≡ first (recordTests (now (delivery .entry)) i block p z q) ⌝ }
-{
-    if !is_due(delivery, i, block, p, z, q) {
-        return refused(Reason::NotDue, i);
-    }
-    if !in_range(delivery, i, block) {
-        return refused(Reason::ValueOutOfRange, i);
-    }
-    Outcome::Accepted
 }

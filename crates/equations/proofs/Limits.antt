@@ -12,7 +12,7 @@ use Rattle.ppda.specs.Rules.{Push, nothing, one, two}
 use Rattle.ppda.specs.Equations.{through, stepsThrough}
 use Rattle.model.specs.Format.{mostStates}
 use Rattle.delivery.specs.Numbers.{uppersOf, rowsOfBlock}
-use Rattle.delivery.specs.Walks.{Within}
+use Rattle.delivery.specs.Blocks.{Within}
 use Rattle.equations.specs.Products.{product, stepsProduct}
 use Rattle.rows.proofs.Sums.{sum-most}
 

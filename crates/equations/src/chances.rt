@@ -17,7 +17,7 @@ ghost use Rattle.model.specs.Records.{recordsOf};
 ghost use Rattle.model.specs.Accepted.{Sized};
 ghost use Rattle.model.specs.Sizes.{Fits};
 ghost use Rattle.delivery.specs.Numbers.{uppersOf};
-ghost use Rattle.delivery.specs.Walks.{HasRecords, Chances};
+ghost use Rattle.delivery.specs.Blocks.{HasRecords, Chances};
 ghost use Rattle.rows.specs.Starts.{Indexed};
 ghost use Rattle.equations.specs.Products.{product, throughOf, fOf};
 

@@ -20,7 +20,7 @@ ghost use Rattle.model.specs.Records.{recordsOf};
 ghost use Rattle.model.specs.Accepted.{Sized};
 ghost use Rattle.model.specs.Sizes.{Fits};
 ghost use Rattle.delivery.specs.Numbers.{rowsOfBlock};
-ghost use Rattle.delivery.specs.Walks.{HasRecords, Chances, MeanSteps};
+ghost use Rattle.delivery.specs.Blocks.{HasRecords, Chances, MeanSteps};
 ghost use Rattle.rows.specs.Starts.{Indexed};
 ghost use Rattle.equations.specs.Products.{stepsProduct, stepsAdded, meanSideOf};
 

@@ -13,8 +13,8 @@ use Rattle.model.specs.declared.sizes.Sizes.{Sizes}
 use Rattle.model.specs.Format.{mostBytes}
 use Rattle.model.specs.Records.{statesOf, symbolsOf}
 use Rattle.model.specs.Sizes.{sizesOf}
-use Rattle.model.specs.Verdict.{modelVerdict}
-use Rattle.model.proofs.Accepted.{model-accepted}
+use Rattle.wellformed.specs.Verdict.{modelVerdict}
+use Rattle.wellformed.proofs.Accepted.{model-accepted}
 use Rattle.delivery.specs.declared.shape.Shape.{Shape}
 use Rattle.delivery.specs.declared.shape.Shaped.the-variants.{Of}
 use Rattle.delivery.specs.Shapes.{hasLowers, hasMeans, shapeOf}

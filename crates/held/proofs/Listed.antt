@@ -20,9 +20,9 @@ use Rattle.walks.proofs.Places.{row-at, row-of, row-below, entry-below}
 use Rattle.model.specs.Format.{mostEntries}
 use Rattle.model.specs.Records.{statesOf, symbolsOf}
 use Rattle.model.specs.Rules.{rulesOf}
-use Rattle.model.specs.Verdict.{modelVerdict}
+use Rattle.wellformed.specs.Verdict.{modelVerdict}
 use Rattle.model.specs.Accepted.{Sized}
-use Rattle.model.proofs.Accepted.{model-accepted}
+use Rattle.wellformed.proofs.Accepted.{model-accepted}
 use Rattle.delivery.specs.Records.{valueAt}
 use Rattle.delivery.specs.Numbers.{uppersOf, rowsOfBlock}
 use Rattle.rows.proofs.Ranges.{set-more}

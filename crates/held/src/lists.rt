@@ -18,7 +18,7 @@ ghost use lib.ListN.{getD};
 ghost use Rattle.model.specs.Format.{mostEntries};
 ghost use Rattle.model.specs.Records.{statesOf, symbolsOf};
 ghost use Rattle.model.specs.Sizes.{Fits};
-ghost use Rattle.delivery.specs.Walks.{HasRecords};
+ghost use Rattle.delivery.specs.Blocks.{HasRecords};
 ghost use Rattle.live.specs.Exits.{exitMarks};
 ghost use Rattle.live.specs.Shown.{liveMark};
 ghost use Rattle.held.specs.Lists.{Values, Marks};
@@ -79,7 +79,7 @@ fn by_entries(live: &[u8; MOST_ROWS], n: Sizes) -> [u32; MOST_ENTRIES]
 pub fn live_marks(model: &[u8]) -> [u32; MOST_ENTRIES]
     ensures { λ r. ⌜ Marks (statesOf (now (model .entry))) (symbolsOf (now (model .entry))) (liveMark (now (model .entry))) r ⌝ }
 {
-    let found = model::check(model);
+    let found = wellformed::check(model);
     if let Outcome::Refused { .. } = found {
         return [0u32; MOST_ENTRIES];
     }

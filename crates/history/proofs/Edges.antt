@@ -11,12 +11,13 @@ use Rattle.ppda.specs.Live.{mark, isLive, alive}
 use Rattle.ppda.specs.Margin.{share, shareAt, margin}
 use Rattle.model.specs.Records.{recordsOf, field, weight, statesOf, symbolsOf}
 use Rattle.model.specs.Rules.{ruleOf, rulesOf, rowOf, rowSum}
-use Rattle.model.specs.Verdict.{wholeRecords, rangeAt, unusedAt, weightAt, ascends, recordTests, rowTests, rowsTests, modelTests, modelVerdict}
+use Rattle.wellformed.specs.Verdict.{wholeRecords, rangeAt, unusedAt, weightAt, ascends, recordTests, rowTests, rowsTests, modelTests, modelVerdict}
 use Rattle.delivery.specs.Records.{byteOf, valueAt}
 use Rattle.delivery.specs.Shapes.{meansFrom, recordsIn, longAs, lowersOrMeans, shapeOf}
 use Rattle.delivery.specs.Numbers.{uppersOf, lowersOf, meansOf}
-use Rattle.delivery.specs.Layout as layout
-use Rattle.delivery.specs.Layout.{isDue, inRange, upperRecords, lowerRecords, meanRecords, layoutTests}
+use Rattle.layout.specs.Layout as layout
+use Rattle.delivery.specs.Records.{isDue, inRange}
+use Rattle.layout.specs.Layout.{upperRecords, lowerRecords, meanRecords, layoutTests}
 use Rattle.walks.specs.Order.{eachEntry, eachRow}
 use Rattle.inequalities.specs.Inequalities.{deadTest, upperTest, belowTest, lowerTest, meanTest, deadTests, upperTests, belowTests, lowerTests, meanTests}
 use Rattle.live.specs.Shown.{liveMark}

@@ -18,7 +18,7 @@ use Rattle.ppda.specs.Chances.{chance, mean}
 use Rattle.ppda.proofs.Marks.{alive-is-bit}
 use Rattle.model.specs.Records.{statesOf, symbolsOf}
 use Rattle.model.specs.Rules.{rulesOf}
-use Rattle.model.specs.Verdict.{modelVerdict}
+use Rattle.wellformed.specs.Verdict.{modelVerdict}
 use Rattle.delivery.specs.declared.shape.Shape.{Shape}
 use Rattle.delivery.specs.declared.shape.Shaped.{Shaped}
 use Rattle.delivery.specs.declared.shape.Shaped.the-variants.{Of, Unknown}

@@ -16,8 +16,9 @@ use Rattle.walks.specs.Order.{entriesIn}
 use Rattle.walks.proofs.Sums.{all-exactly}
 use Rattle.model.specs.Records.{statesOf, symbolsOf}
 use Rattle.model.specs.Format.{mostBytes}
-use Rattle.model.specs.Verdict.{modelVerdict}
-use Rattle.model.proofs.Accepted.{model-accepted, sized-of, sized-fits}
+use Rattle.wellformed.specs.Verdict.{modelVerdict}
+use Rattle.model.proofs.Accepted.{sized-fits}
+use Rattle.wellformed.proofs.Accepted.{model-accepted, sized-of}
 use Rattle.delivery.specs.Records.{kindAt, stateAt, symbolAt, exitAt, valueAt}
 use Rattle.delivery.specs.declared.shape.Shaped.the-variants.{Of}
 use Rattle.delivery.specs.Shapes.{hasLowers, hasMeans, shapeOf}

@@ -9,8 +9,8 @@ use mathlib.Core.Option.{Option, none, some}
 use mathlib.Core.Path.{_≡_, refl, sym, ap, _∙_}
 use Rattle.outcome.specs.declared.Outcome.{Outcome}
 use Rattle.outcome.specs.declared.Outcome.the-variants.{Accepted, Refused}
-use Rattle.model.specs.Verdict.{modelVerdict}
-use Rattle.model.proofs.Accepted.{model-accepted}
+use Rattle.wellformed.specs.Verdict.{modelVerdict}
+use Rattle.wellformed.proofs.Accepted.{model-accepted}
 use Rattle.certificate.specs.Verdict.{verdict}
 use Rattle.certificate.proofs.Accepted.{delivery-accepted}
 use Rattle.history.specs.Calls.{Call, fileModel, fileDelivery, accepted, taken}

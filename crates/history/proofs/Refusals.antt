@@ -8,7 +8,7 @@ use lib.IntN.{ℤ, pos}
 use Rattle.outcome.specs.declared.Reason.the-variants.{NoModel, ModelHeld}
 use Rattle.outcome.specs.declared.Outcome.{Outcome}
 use Rattle.outcome.specs.declared.Outcome.the-variants.{Accepted, Refused}
-use Rattle.model.specs.Verdict.{modelVerdict}
+use Rattle.wellformed.specs.Verdict.{modelVerdict}
 use Rattle.certificate.specs.Verdict.{verdict}
 use Rattle.register.specs.declared.Register.{Register}
 use Rattle.register.specs.declared.answer.Mark.{Mark}

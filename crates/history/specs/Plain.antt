@@ -11,7 +11,7 @@ use Rattle.outcome.specs.Reasons.{numberOf}
 use Rattle.walks.specs.Sums.{allTo}
 use Rattle.walks.specs.Order.{entriesIn}
 use Rattle.model.specs.Records.{statesOf, symbolsOf}
-use Rattle.model.specs.Verdict.{modelVerdict}
+use Rattle.wellformed.specs.Verdict.{modelVerdict}
 use Rattle.delivery.specs.declared.shape.Shape.{Shape}
 use Rattle.delivery.specs.declared.shape.Shaped.{Shaped}
 use Rattle.delivery.specs.declared.shape.Shaped.the-variants.{Of, Unknown}

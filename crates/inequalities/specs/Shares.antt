@@ -13,7 +13,7 @@ use Rattle.ppda.specs.Bounds as Bounds
 use Rattle.model.specs.declared.sizes.Sizes.{Sizes}
 use Rattle.model.specs.Rules.{rulesOf}
 use Rattle.delivery.specs.Numbers.{uppersOf}
-use Rattle.delivery.specs.Walks.{Chances}
+use Rattle.delivery.specs.Blocks.{Chances}
 use Rattle.live.specs.Exits.{exitMarks}
 use Rattle.rows.specs.Starts.{Indexed}
 

@@ -14,7 +14,7 @@ ghost use Prim.Native.Nat.{_^_, _≤_, _<_};
 ghost use Rattle.outcome.specs.Tests.{first};
 ghost use Rattle.ppda.specs.Units.{mostMean};
 ghost use Rattle.delivery.specs.Format.{mostRecords};
-ghost use Rattle.delivery.specs.Walks.{Chances, MeanSteps};
+ghost use Rattle.delivery.specs.Blocks.{Chances, MeanSteps};
 ghost use Rattle.rows.specs.Starts.{Indexed};
 ghost use Rattle.inequalities.specs.Inequalities.{meanTest};
 ghost use Rattle.inequalities.specs.Walks.{meanBlock};

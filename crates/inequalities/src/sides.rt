@@ -19,7 +19,7 @@ ghost use Rattle.ppda.specs.Units.{mostChance};
 ghost use Rattle.walks.specs.Order.{rowsIn};
 ghost use Rattle.model.specs.Format.{mostEntries};
 ghost use Rattle.model.specs.Sizes.{Fits};
-ghost use Rattle.delivery.specs.Walks.{Chances};
+ghost use Rattle.delivery.specs.Blocks.{Chances};
 ghost use Rattle.rows.specs.Starts.{Indexed};
 ghost use Rattle.inequalities.specs.Inequalities.{upperTest, lowerTest};
 ghost use Rattle.inequalities.specs.Walks.{sideTest, sideFrom, sideRow, sideBlock};

@@ -12,8 +12,8 @@ use Rattle.outcome.specs.Reasons.{numberOf}
 use Rattle.model.specs.Format as model
 use Rattle.delivery.specs.Format as delivery
 use Rattle.model.specs.Records.{recordsOf}
-use Rattle.model.specs.Verdict.{modelVerdict}
-use Rattle.model.proofs.Places.{model-record}
+use Rattle.wellformed.specs.Verdict.{modelVerdict}
+use Rattle.wellformed.proofs.Places.{model-record}
 use Rattle.certificate.specs.Verdict.{verdict}
 use Rattle.certificate.proofs.Places.{rule-record, bound-record}
 use Rattle.lent.specs.Parts.{bytesFrom, isWhole, recordPart, namesRule, namesBound, namesModel, inModel, inDelivery, offendingPart}

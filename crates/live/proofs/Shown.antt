@@ -9,8 +9,9 @@ use Rattle.ppda.specs.Live.{isLive, Live}
 use Rattle.ppda.proofs.Live.{live-by-rounds}
 use Rattle.model.specs.Records.{statesOf, symbolsOf}
 use Rattle.model.specs.Rules.{rulesOf}
-use Rattle.model.specs.Verdict.{modelVerdict}
-use Rattle.model.proofs.Accepted.{model-accepted, is-model}
+use Rattle.wellformed.specs.Verdict.{modelVerdict}
+use Rattle.model.proofs.Accepted.{is-model}
+use Rattle.wellformed.proofs.Accepted.{model-accepted}
 use Rattle.live.specs.Shown.{liveMark}
 
 -- The marks shown of an accepted model are those of document 01: live where some run empties the stack.

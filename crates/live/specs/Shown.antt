@@ -7,7 +7,7 @@ use Rattle.ppda.specs.Equations.{Vector}
 use Rattle.ppda.specs.Live.{alive}
 use Rattle.model.specs.Records.{statesOf, symbolsOf}
 use Rattle.model.specs.Rules.{rulesOf}
-use Rattle.model.specs.Verdict.{modelVerdict}
+use Rattle.wellformed.specs.Verdict.{modelVerdict}
 
 -- A mark by the verdict on the model: nothing of a refused model is live.
 abbrev pub markUnder : Outcome → ℕ → ℕ

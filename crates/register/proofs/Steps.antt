@@ -16,7 +16,7 @@ use Rattle.walks.specs.Order.{entriesIn}
 use Rattle.walks.proofs.Sums.{all-exactly}
 use Rattle.model.specs.declared.sizes.Sizes.{Sizes}
 use Rattle.model.specs.Sizes.{sizesOf}
-use Rattle.model.specs.Verdict.{modelVerdict}
+use Rattle.wellformed.specs.Verdict.{modelVerdict}
 use Rattle.delivery.specs.declared.shape.Shape.{Shape}
 use Rattle.delivery.specs.Shapes.{shapeOf}
 use Rattle.certificate.specs.Verdict.{verdict}

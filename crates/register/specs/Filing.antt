@@ -9,7 +9,7 @@ use Rattle.outcome.specs.declared.Reason.the-variants.{NoModel, ModelHeld}
 use Rattle.outcome.specs.declared.Outcome.{Outcome}
 use Rattle.outcome.specs.declared.Outcome.the-variants.{Accepted, Refused}
 use Rattle.model.specs.Records.{statesOf, symbolsOf}
-use Rattle.model.specs.Verdict.{modelVerdict}
+use Rattle.wellformed.specs.Verdict.{modelVerdict}
 use Rattle.delivery.specs.declared.shape.Shape.{Shape}
 use Rattle.delivery.specs.Shapes.{shapeOf}
 use Rattle.walks.specs.Sums.{allTo}

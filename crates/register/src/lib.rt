@@ -99,7 +99,7 @@ impl Register {
         if holds_model(length) {
             return model_refused(self, refused(Reason::ModelHeld, 0));
         }
-        let found = model::check(file);
+        let found = wellformed::check(file);
         if is_refused(found) {
             return model_refused(self, found);
         }

@@ -9,7 +9,7 @@ use Rattle.outcome.specs.declared.Outcome.{Outcome}
 use Rattle.outcome.specs.declared.Outcome.the-variants.{Accepted, Refused}
 use Rattle.outcome.specs.Tests.{isRefused, first}
 use Rattle.model.specs.W.{wFile}
-use Rattle.model.specs.Verdict.{wholeRecords, modelTests, modelVerdict}
+use Rattle.wellformed.specs.Verdict.{wholeRecords, modelTests, modelVerdict}
 use Rattle.register.specs.declared.Register.{Register}
 use Rattle.register.specs.declared.Filed.{Filed}
 use Rattle.held.specs.Held.{holdsModel, noModel}

@@ -1,7 +1,7 @@
 -- `bounds_check_model`: the verdict as one number; its place fits.
 use mathlib.Core.Path.{sym, ap, _∙_}
 use borrow.Author.Needs.{needs}
-use Rattle.model.proofs.Places.{model-place}
+use Rattle.wellformed.proofs.Places.{model-place}
 use Rattle.bounds.specs.Codes.{codeOf}
 use Rattle.bounds.proofs.Codes.{place-below}
 use Rattle.bounds.proofs.bounds_check_model.Statement.{statement}

@@ -3,8 +3,9 @@ use mathlib.Core.Path.{_≡_, sym, _∙_}
 use denote.Ref.{now}
 use borrow.Author.Needs.{needs}
 use Rattle.outcome.specs.declared.Outcome.the-variants.{Accepted}
-use Rattle.model.specs.Verdict.{modelVerdict}
-use Rattle.model.proofs.Accepted.{sized-by, sized-fits}
+use Rattle.wellformed.specs.Verdict.{modelVerdict}
+use Rattle.model.proofs.Accepted.{sized-fits}
+use Rattle.wellformed.proofs.Accepted.{sized-by}
 use Rattle.certificate.proofs.Steps.{shape-of-refused, shape-of-accepted}
 use Rattle.certificate.proofs.shape.Statement.{statement}
 use Rattle.certificate.proofs.shape.Tie as tie

@@ -3,7 +3,8 @@ use mathlib.Core.Path.{refl, sym, _∙_}
 use denote.Ref.{now}
 use borrow.Author.Needs.{needs}
 use Rattle.model.specs.Accepted.{Sized}
-use Rattle.model.proofs.Accepted.{sized-by, sized-fits}
+use Rattle.model.proofs.Accepted.{sized-fits}
+use Rattle.wellformed.proofs.Accepted.{sized-by}
 use Rattle.certificate.proofs.Steps.{delivery-decides, no-shape}
 use Rattle.certificate.proofs.beside.check.Statement.{statement}
 use Rattle.certificate.proofs.beside.check.Tie as tie

@@ -1,5 +1,5 @@
 -- `in_range`: the tests are the definition's, at the value read.
-use Rattle.delivery.specs.Layout.{inRange}
+use Rattle.delivery.specs.Records.{inRange}
 use borrow.Author.Needs.{needs}
 use Rattle.delivery.proofs.record.in_range.Statement.{statement}
 use Rattle.delivery.proofs.record.in_range.Tie as tie

@@ -1,5 +1,5 @@
 -- `is_due`: the tests are the definition's, at the numbers read.
-use Rattle.delivery.specs.Layout.{isDue}
+use Rattle.delivery.specs.Records.{isDue}
 use borrow.Author.Needs.{needs}
 use Rattle.delivery.proofs.record.is_due.Statement.{statement}
 use Rattle.delivery.proofs.record.is_due.Tie as tie

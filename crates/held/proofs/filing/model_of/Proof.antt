@@ -2,7 +2,8 @@
 use native.Mathlib.Omega.{arith}
 use borrow.Author.Needs.{needs}
 use Rattle.model.specs.Sizes.{Fits}
-use Rattle.model.proofs.Accepted.{sized-by, sized-fits}
+use Rattle.model.proofs.Accepted.{sized-fits}
+use Rattle.wellformed.proofs.Accepted.{sized-by}
 use Rattle.held.proofs.Becomes.{model-fits, model-is}
 use Rattle.held.proofs.filing.model_of.Statement.{statement}
 use Rattle.held.proofs.filing.model_of.Tie as tie

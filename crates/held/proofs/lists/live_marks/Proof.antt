@@ -3,7 +3,8 @@ use mathlib.Core.Path.{refl, sym, _∙_}
 use borrow.Author.Needs.{needs}
 use Rattle.model.specs.Accepted.{Sized}
 use Rattle.model.specs.Format.{mostEntries}
-use Rattle.model.proofs.Accepted.{sized-by, sized-fits}
+use Rattle.model.proofs.Accepted.{sized-fits}
+use Rattle.wellformed.proofs.Accepted.{sized-by}
 use Rattle.held.proofs.Listed.{none-live, live-of}
 use Rattle.held.proofs.lists.live_marks.Statement.{statement}
 use Rattle.held.proofs.lists.live_marks.Tie as tie

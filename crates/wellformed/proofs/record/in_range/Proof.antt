@@ -1,0 +1,39 @@
+-- `in_range`: the tests are the definition's.
+use Rattle.wellformed.specs.Verdict.{rangeAt}
+use borrow.Author.Needs.{needs}
+use Rattle.wellformed.proofs.record.in_range.Statement.{statement}
+use Rattle.wellformed.proofs.record.in_range.Tie as tie
+
+state-requires : tie.Need-state-requires
+state-requires c κs = search needs
+
+symbol-requires : tie.Need-symbol-requires
+symbol-requires c κs = search needs
+
+target-requires : tie.Need-target-requires
+target-requires c κs = search needs
+
+pushes-requires : tie.Need-pushes-requires
+pushes-requires c κs = search needs
+
+top-requires : tie.Need-top-requires
+top-requires c κs = search needs
+
+under-requires : tie.Need-under-requires
+under-requires c κs = search needs
+
+returns : tie.Need-returns
+unfolding rangeAt
+returns c = cc
+
+pub in-range-spec : {M : Type 1} → statement M
+in-range-spec =
+    tie.close
+    (tie.spec
+    state-requires
+    symbol-requires
+    target-requires
+    pushes-requires
+    top-requires
+    under-requires
+    returns)

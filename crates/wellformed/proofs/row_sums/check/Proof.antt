@@ -1,0 +1,106 @@
+-- `check`: the loop returns at the first row whose sum is not 65,536, after every row before it has passed.
+use Prim.Native.Nat.{_-_, _≤_}
+use native.Mathlib.Omega.{arith}
+use mathlib.Core.Path.{_≡_, sym, ap, _∙_}
+use lib.ListN.{getD}
+use denote.Ref.{now}
+use borrow.Author.Needs.{needs}
+use Rattle.outcome.proofs.Tests.{each-none, each-more, each-hit, refusal-not-accepted, each-end}
+use Rattle.outcome.specs.Tests.{first}
+use Rattle.walks.specs.Lists.{each}
+use Rattle.outcome.specs.declared.Outcome.the-variants.{Accepted}
+use Rattle.walks.specs.Order.{rowsIn}
+use Rattle.model.specs.declared.sizes.Sizes.{Sizes}
+use Rattle.model.specs.Format.{mostRows}
+use Rattle.model.specs.Rules.{rowSum}
+use Rattle.model.specs.Records.{statesOf, symbolsOf}
+use Rattle.wellformed.specs.Verdict.{rowTests, rowsTests}
+use Rattle.wellformed.proofs.Verdict.{row-fails, row-passes}
+use Rattle.model.proofs.Records.{sizes-fit}
+use Rattle.wellformed.proofs.row_sums.check.Statement.{statement}
+use Rattle.wellformed.proofs.row_sums.check.Tie as tie
+
+abbrev Inv-loop : tie.InvT-loop
+Inv-loop model rows sums k₀ k =
+    (k ≤ rows) × (rows ≤ mostRows) × (rows ≡ rowsIn (statesOf model) (symbolsOf model)) × (first (each k (rowTests model)) ≡ Accepted)
+
+abbrev μ-loop : tie.MeasureT-loop
+μ-loop model rows sums k₀ k = rows - k
+
+-- The number read is the sum of row k.
+sum-read : (c : tie.In-loop Inv-loop μ-loop)
+    → let model = now (c .before .before .before .before .before .before .args .model) in
+    getD (c .before .before .sums .result) (c .before .loop .k) 0 ≡ rowSum model (symbolsOf model) (c .before .loop .k)
+sum-read c =
+    c .before .before .sums .ensures (c .before .loop .k) (omega arith)
+    ∙ ap (λ (n : Sizes). rowSum (now (c .before .before .before .before .before .before .args .model)) (n .symbols) (c .before .loop .k)) (c .before .before .before .before .sizes-of .ensures .0)
+
+sizes-of-requires : tie.Need-sizes-of-requires Inv-loop μ-loop
+sizes-of-requires c κs = search needs
+
+rows-requires : tie.Need-rows-requires Inv-loop μ-loop
+rows-requires c κs = rw (c .sizes-of .ensures .0) (sizes-fit _ (c .before .before .pre .right))
+
+sums-requires : tie.Need-sums-requires Inv-loop μ-loop
+sums-requires c κs = (c .before .before .before .pre, c .before .sizes-of .ensures .0)
+
+loop-holds : tie.Need-loop-holds Inv-loop μ-loop
+loop-holds c = (
+  search needs,
+  c .before .rows .ensures .1,
+  c .before .rows .ensures .0 ∙ ap (λ (n : Sizes). rowsIn (n .states) (n .symbols)) (c .before .before .sizes-of .ensures .0),
+  each-none _,
+)
+
+mul-if1 : tie.Need-mul-if1 Inv-loop μ-loop
+mul-if1 c = search needs
+
+array-read-if1 : tie.Need-array-read-if1 Inv-loop μ-loop
+array-read-if1 c = search needs
+
+refused-requires : tie.Need-refused-requires Inv-loop μ-loop
+refused-requires c κs = search needs
+
+returns : tie.Need-returns Inv-loop μ-loop
+unfolding rowsTests
+returns c =
+    let fails = row-fails _ _ (λ e. c .before .if1 .taken (sum-read (c .before .before) ∙ e)) in
+    c .refused .ensures
+    ∙ sym (each-hit _ _ _ (omega arith) (c .before .before .before .loop .inv .3) (λ a. refusal-not-accepted _ a fails) ∙ fails)
+
+add-k : tie.Need-add-k Inv-loop μ-loop
+add-k c = search needs
+
+loop-less : tie.Need-loop-less Inv-loop μ-loop
+loop-less c = search needs
+
+loop-again : tie.Need-loop-again Inv-loop μ-loop
+loop-again c = (
+  omega arith,
+  search needs,
+  search needs,
+  each-more _ _ (c .before .before .loop .inv .3) (row-passes _ _ (sym (sum-read (c .before)) ∙ c .if1 .left)),
+)
+
+returns-2 : tie.Need-returns-2 Inv-loop μ-loop
+unfolding rowsTests
+returns-2 c = sym (each-end _ _ _ (c .before .loop .inv .3) (omega arith))
+
+pub check-spec : {M : Type 1} → statement M
+check-spec =
+    tie.close
+    (tie.spec
+    Inv-loop
+    μ-loop
+    sizes-of-requires
+    rows-requires
+    sums-requires
+    loop-holds
+    mul-if1
+    array-read-if1
+    refused-requires
+    returns
+    add-k
+    loop-less
+    loop-again
+    returns-2)
