@@ -41,7 +41,7 @@ row-read : (c : tie.After-row Inv-loop μ-loop)
     → c .row .result
     ≡ rowOf (c .before .before .before .before .before .before .before .args .model .now) (c .before .before .before .before .before .before .before .args .n .symbols) (c .before .before .before .before .loop .at)
 unfolding rowOf
-row-read c = cc
+row-read c = rw (c .row .ensures .0, c .before .symbol .ensures .0, c .before .before .state .ensures .0)
 
 returns : tie.Need-returns Inv-loop μ-loop
 returns c =

@@ -15,7 +15,7 @@ most-requires c κs = search needs
 
 returns : tie.Need-returns
 unfolding inRange
-returns c = cc
+returns c = rw (c .most .ensures, c .before .least .ensures, c .before .before .value-at .ensures .0)
 
 pub in-range-spec : {M : Type 1} → statement M
 in-range-spec = tie.close (tie.spec value-at-requires least-requires most-requires returns)

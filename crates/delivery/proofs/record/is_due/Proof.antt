@@ -21,7 +21,15 @@ exit-at-requires c κs = search needs
 
 returns : tie.Need-returns
 unfolding isDue
-returns c = cc
+returns c =
+    let read = c .before .before in
+    rw (
+      c .exit-at .ensures .0,
+      c .before .symbol-at .ensures .0,
+      read .state-at .ensures .0,
+      read .before .kind .ensures,
+      read .before .before .kind-at .ensures .0,
+    )
 
 pub is-due-spec : {M : Type 1} → statement M
 is-due-spec =

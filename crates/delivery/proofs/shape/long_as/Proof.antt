@@ -12,7 +12,7 @@ mul-result c = search needs
 
 returns : tie.Need-returns
 unfolding longAs
-returns c = cc
+returns c = rw (c .records-in .ensures .0)
 
 pub long-as-spec : {M : Type 1} → statement M
 long-as-spec = tie.close (tie.spec records-in-requires mul-result returns)

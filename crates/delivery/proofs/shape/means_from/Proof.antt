@@ -16,11 +16,11 @@ add-result c = search needs
 
 returns : tie.Need-returns
 unfolding meansFrom
-returns c = (cc, omega arith)
+returns c = (rw (← c .before .has-lowers .ensures, c .if1 .taken, c .before .before .entries .ensures .0), omega arith)
 
 returns-2 : tie.Need-returns-2
 unfolding meansFrom
-returns-2 c = (cc, omega arith)
+returns-2 c = (rw (← c .before .has-lowers .ensures, c .if1 .left, c .before .before .entries .ensures .0), omega arith)
 
 pub means-from-spec : {M : Type 1} → statement M
 means-from-spec = tie.close (tie.spec entries-requires has-lowers-requires add-result returns returns-2)

@@ -19,11 +19,13 @@ add-result c = search needs
 
 returns : tie.Need-returns
 unfolding recordsIn
-returns c = (cc, omega arith)
+returns c =
+    let tested = c .before .before in
+    (rw (← tested .has-means .ensures, c .before .if1 .taken, tested .before .means-from .ensures .0, c .rows .ensures .0), omega arith)
 
 returns-2 : tie.Need-returns-2
 unfolding recordsIn
-returns-2 c = (cc, omega arith)
+returns-2 c = (rw (← c .before .has-means .ensures, c .if1 .left, c .before .before .means-from .ensures .0), omega arith)
 
 pub records-in-spec : {M : Type 1} → statement M
 records-in-spec = tie.close (tie.spec means-from-requires has-means-requires rows-requires add-result returns returns-2)

@@ -55,7 +55,8 @@ mul-result-2 c = search needs
 
 returns-3 : tie.Need-returns-3
 returns-3 c = (
-  rw (pushes-one _ _ _ (sym (c .before .before .before .before .pushes .ensures .0) ∙ c .before .if3 .taken)) (cc),
+  rw (pushes-one _ _ _ (sym (c .before .before .before .before .pushes .ensures .0) ∙ c .before .if3 .taken))
+      (rw (c .value .ensures .0, c .before .before .top .ensures .0, c .before .before .before .before .before .target .ensures .0)),
   omega (arith, value-most c),
 )
 

@@ -13,7 +13,7 @@ value-at-requires c κs = omega (arith, c .entry .ensures .1, c .before .before 
 
 returns : tie.Need-returns
 unfolding uppersOf
-returns c = (cc, c .value-at .ensures .1)
+returns c = (rw (c .value-at .ensures .0, c .before .entry .ensures .0), c .value-at .ensures .1)
 
 pub value-spec : {M : Type 1} → statement M
 value-spec = tie.close (tie.spec entry-requires value-at-requires returns)

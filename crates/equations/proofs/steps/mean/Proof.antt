@@ -11,7 +11,7 @@ value-at-requires : tie.Need-value-at-requires
 value-at-requires c κs = omega (arith, c .row .ensures .1, c .before .before .pre .0 .1)
 
 returns : tie.Need-returns
-returns c = (cc, c .value-at .ensures .1)
+returns c = (rw (c .value-at .ensures .0, c .before .row .ensures .0), c .value-at .ensures .1)
 
 pub mean-spec : {M : Type 1} → statement M
 mean-spec = tie.close (tie.spec row-requires value-at-requires returns)

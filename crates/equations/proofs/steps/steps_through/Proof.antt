@@ -35,7 +35,8 @@ mul-first c = search needs
 
 returns-2 : tie.Need-returns-2
 returns-2 c = (
-  rw (pushes-one _ _ _ (sym (c .before .before .before .before .before .pushes .ensures .0) ∙ c .if2 .taken)) (cc),
+  rw (pushes-one _ _ _ (sym (c .before .before .before .before .before .pushes .ensures .0) ∙ c .if2 .taken))
+      (rw (c .before .mean .ensures .0, c .before .before .top .ensures .0, c .before .before .before .target .ensures .0)),
   omega (arith, mean-most (c .before)),
 )
 

@@ -9,7 +9,7 @@ has-row-requires c κs = search needs
 
 returns : tie.Need-returns
 unfolding hasEntry
-returns c = cc
+returns c = rw (c .has-row .ensures)
 
 pub has-entry-spec : {M : Type 1} → statement M
 has-entry-spec = tie.close (tie.spec has-row-requires returns)

@@ -13,7 +13,7 @@ div-result c = rw (c .size-of .ensures) (size-positive (c .before .before .args 
 
 returns : tie.Need-returns
 unfolding isWhole
-returns c = cc
+returns c = rw (c .size-of .ensures)
 
 pub is-whole-spec : {M : Type 1} → statement M
 is-whole-spec = tie.close (tie.spec size-of-requires div-result returns)

@@ -24,7 +24,16 @@ under-requires c κs = search needs
 
 returns : tie.Need-returns
 unfolding rangeAt
-returns c = cc
+returns c =
+    let read = c .before .before .before in
+    rw (
+      c .under .ensures .0,
+      c .before .top .ensures .0,
+      c .before .before .pushes .ensures .0,
+      read .target .ensures .0,
+      read .before .symbol .ensures .0,
+      read .before .before .state .ensures .0,
+    )
 
 pub in-range-spec : {M : Type 1} → statement M
 in-range-spec =

@@ -13,7 +13,7 @@ field-requires-2 : tie.Need-field-requires-2
 field-requires-2 c κs = search needs
 
 returns : tie.Need-returns
-returns c = cc
+returns c = rw (c .field2 .ensures .0, c .before .field .ensures .0)
 
 pub later-spec : {M : Type 1} → statement M
 later-spec = tie.close (tie.spec add-field field-requires field-requires-2 returns)

@@ -22,7 +22,16 @@ later-requires-6 : tie.Need-later-requires-6
 later-requires-6 c κs = search needs
 
 returns : tie.Need-returns
-returns c = cc
+returns c =
+    let rest = c .before .before .before in
+    rw (
+      c .later6 .ensures,
+      c .before .later5 .ensures,
+      c .before .before .later4 .ensures,
+      rest .later3 .ensures,
+      rest .before .later2 .ensures,
+      rest .before .before .later .ensures,
+    )
 
 pub lies-above-spec : {M : Type 1} → statement M
 lies-above-spec =

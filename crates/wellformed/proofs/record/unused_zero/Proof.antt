@@ -15,7 +15,7 @@ under-requires c κs = search needs
 
 returns : tie.Need-returns
 unfolding unusedAt
-returns c = cc
+returns c = rw (c .under .ensures .0, c .before .top .ensures .0, c .before .before .pushes .ensures .0)
 
 pub unused-zero-spec : {M : Type 1} → statement M
 unused-zero-spec = tie.close (tie.spec pushes-requires top-requires under-requires returns)

@@ -9,7 +9,7 @@ weight-requires c κs = search needs
 
 returns : tie.Need-returns
 unfolding weightAt
-returns c = cc
+returns c = rw (c .weight .ensures .0)
 
 pub weight-in-range-spec : {M : Type 1} → statement M
 weight-in-range-spec = tie.close (tie.spec weight-requires returns)

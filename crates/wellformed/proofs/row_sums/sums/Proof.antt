@@ -74,7 +74,7 @@ loop-again c =
       omega arith,
       search needs,
       row-sums-step (c .before .before .before .before .before .loop .inv .2) (row .result) (c .weight .result) (listed (c .before))
-          (cc) (c .weight .ensures .0),
+          (rw (row .ensures .0, c .before .before .symbol .ensures .0, c .before .before .before .state .ensures .0)) (c .weight .ensures .0),
     )
 
 returns : tie.Need-returns Inv-loop μ-loop
