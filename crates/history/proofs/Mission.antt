@@ -29,7 +29,7 @@ use Rattle.live.proofs.Shown.{live-marks-by-runs}
 use Rattle.certificate.specs.Verdict.{verdict}
 use Rattle.certificate.specs.Margin.{marginOf}
 use Rattle.certificate.proofs.Holds.{upper-of-files, lower-of-shape, lower-as-shown-of-shape, mean-of-files}
-use Rattle.history.specs.Calls.{Call, upper, lower, meanSteps, margin, live, Reply, value, refused, refusal}
+use Rattle.calls.specs.Calls.{Call, upper, lower, meanSteps, margin, live, Reply, value, refused, refusal}
 use Rattle.history.specs.Plain.{lastModel, lastDelivery, ofModel, ofDelivery, ofBlock, atEntry, atRow, plainReply}
 use Rattle.history.specs.Run.{replyTo, history}
 use Rattle.history.specs.Mission.{Holds, UpperShown, LowerHeld, LowerShown, MeanShown, LiveShown, LiveRefused}

@@ -30,17 +30,19 @@ use Rattle.certificate.specs.Margin.{marginOf}
 use Rattle.certificate.specs.Verdict.{verdict}
 use Rattle.certificate.proofs.Accepted.{delivery-accepted}
 use Rattle.certificate.proofs.Rest.{at-numbers}
-use Rattle.register.specs.declared.answer.Mark.the-variants.{Known, New}
+use Rattle.calls.specs.declared.Mark.the-variants.{Known, New}
 use Rattle.held.specs.Held.{listed, listedRows, noModel, modelHeld, numbersHeld, holdsModel}
 use Rattle.held.specs.Places.{hasRow, hasEntry, rowValue, entryValue}
 use Rattle.held.proofs.Listed.{listed-at, rows-at, filled-back}
 use Rattle.register.specs.Filing as Filing
 use Rattle.register.specs.Filing.{fileOf, withModel, modelBy, deliveryBy, received, shapeFor, sameTo, markBy}
-use Rattle.register.specs.Questions.{answered, upperIn, lowerIn, meanIn, marginIn, liveIn}
+use Rattle.calls.specs.Answers.{answered}
+use Rattle.register.specs.Questions.{upperIn, lowerIn, meanIn, marginIn, liveIn}
 use Rattle.register.proofs.Steps.{same-found}
-use Rattle.history.specs.Calls.{Call, clear, fileModel, fileDelivery, upper, lower, meanSteps, margin, live, Reply, accepted, known, new, value, refusal, taken}
+use Rattle.calls.specs.Calls.{Call, clear, fileModel, fileDelivery, upper, lower, meanSteps, margin, live, Reply, accepted, known, new, value, refusal, taken}
 use Rattle.history.specs.Plain.{Pair, ofModel, ofDelivery, ifNone, atRow, atEntry, ofBlock, byVerdict, sameRecord, sameUppers, markOf, modelAfter, deliveryAfter, plainReply}
-use Rattle.history.specs.Run.{modelReply, markReply, deliveryReply, answerReply, afterCall, replyOf, holding, registerOf}
+use Rattle.calls.specs.Answers.{modelReply, markReply, deliveryReply, answerReply}
+use Rattle.history.specs.Run.{afterCall, replyOf, holding, registerOf}
 
 -- The reply to a question on a block that the held delivery may have, for the model b and the delivery d.
 abbrev pub lowerReply : List ℕ → List ℕ → ℕ → ℕ → ℕ → Reply

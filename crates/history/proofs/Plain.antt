@@ -13,7 +13,7 @@ use Rattle.wellformed.specs.Verdict.{modelVerdict}
 use Rattle.wellformed.proofs.Accepted.{model-accepted}
 use Rattle.certificate.specs.Verdict.{verdict}
 use Rattle.certificate.proofs.Accepted.{delivery-accepted}
-use Rattle.history.specs.Calls.{Call, fileModel, fileDelivery, accepted, taken}
+use Rattle.calls.specs.Calls.{Call, fileModel, fileDelivery, accepted, taken}
 use Rattle.history.specs.Plain.{lastModel, lastDelivery, pairOf, ofModel, ifNone, byVerdict, markOf, plainReply}
 use Rattle.history.specs.Run.{afterCall, replyOf, registerAfter, history, registerOf}
 use Rattle.history.specs.Mission.{HoldsPair, AsPlainPair, ModelTaken, DeliveryTaken}

@@ -11,13 +11,14 @@ use Rattle.outcome.specs.declared.Outcome.the-variants.{Accepted, Refused}
 use Rattle.wellformed.specs.Verdict.{modelVerdict}
 use Rattle.certificate.specs.Verdict.{verdict}
 use Rattle.register.specs.declared.Register.{Register}
-use Rattle.register.specs.declared.answer.Mark.{Mark}
-use Rattle.register.specs.declared.answer.Mark.the-variants.{Known, New, Absent}
+use Rattle.calls.specs.declared.Mark.{Mark}
+use Rattle.calls.specs.declared.Mark.the-variants.{Known, New, Absent}
 use Rattle.register.specs.Filing as Filing
 use Rattle.register.specs.Filing.{fileOf, modelBy, deliveryBy}
 use Rattle.held.specs.Held.{holdsModel}
-use Rattle.history.specs.Calls.{Call, clear, fileModel, fileDelivery, upper, lower, meanSteps, margin, live, refused}
-use Rattle.history.specs.Run.{modelReply, markReply, deliveryReply, afterCall, replyOf}
+use Rattle.calls.specs.Calls.{Call, clear, fileModel, fileDelivery, upper, lower, meanSteps, margin, live, refused}
+use Rattle.calls.specs.Answers.{modelReply, markReply, deliveryReply}
+use Rattle.history.specs.Run.{afterCall, replyOf}
 use Rattle.history.specs.Mission.{RefusedKeeps}
 
 -- A mark is no refusal.

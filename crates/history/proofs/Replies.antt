@@ -1,7 +1,7 @@
 -- A register's replies to calls in the order of time are those of the plain pair.
 use mathlib.Core.List.{List, [], _∷_}
 use mathlib.Core.Path.{_≡_, refl}
-use Rattle.history.specs.Calls.{Call}
+use Rattle.calls.specs.Calls.{Call}
 use Rattle.history.specs.Plain.{plainReplies}
 use Rattle.history.specs.Run.{registerAfter, history, replies}
 use Rattle.history.specs.Mission.{RepliesAsPlain}

@@ -8,7 +8,7 @@ use Rattle.model.specs.W.{wFile}
 use Rattle.delivery.specs.Made.{deliveryRecord}
 use Rattle.certificate.specs.Edges.{oneRule, wDelivery}
 use Rattle.register.specs.Filing as Filing
-use Rattle.history.specs.Calls.{Call, clear, fileModel, fileDelivery, upper, lower, meanSteps, margin, live, Reply, cleared, accepted, known, new, value, refused, refusal}
+use Rattle.calls.specs.Calls.{Call, clear, fileModel, fileDelivery, upper, lower, meanSteps, margin, live, Reply, cleared, accepted, known, new, value, refused, refusal}
 use Rattle.history.specs.Plain.{Event, pairOf, plainReply}
 use Rattle.history.specs.Run.{replies}
 

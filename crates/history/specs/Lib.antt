@@ -1,6 +1,5 @@
--- The mission for every sequence of calls: the calls, the plain pair of files and its replies, a register through a list of calls, and the
--- points 1 to 3 for it; and a table of exchanges.
-pub mod Calls
+-- The mission for every sequence of calls: the plain pair of files and its replies, a register through a list of calls, and the points 1 to 3
+-- for it; and a table of exchanges.
 pub mod Plain
 pub mod Run
 pub mod Mission

@@ -15,7 +15,7 @@ use Rattle.model.specs.Accepted.{ModelFile}
 use Rattle.certificate.specs.Accepted.{RightFiles}
 use Rattle.register.specs.declared.Register.{Register}
 use Rattle.register.specs.Filing.{cleared}
-use Rattle.history.specs.Calls.{Call, fileModel, fileDelivery, upper, lower, meanSteps, margin, live, accepted, value, refused, taken}
+use Rattle.calls.specs.Calls.{Call, fileModel, fileDelivery, upper, lower, meanSteps, margin, live, accepted, value, refused, taken}
 use Rattle.history.specs.Plain.{lastModel, pairOf, plainReply, plainReplies}
 use Rattle.history.specs.Run.{afterCall, replyOf, registerAfter, replyTo, history, replies, registerOf}
 

@@ -21,7 +21,7 @@ use Rattle.delivery.specs.Numbers.{uppersOf, lowersOf, meansOf}
 use Rattle.live.specs.Shown.{liveMark}
 use Rattle.certificate.specs.Verdict.{verdict}
 use Rattle.certificate.specs.Margin.{marginOf}
-use Rattle.history.specs.Calls.{Call, clear, fileModel, fileDelivery, upper, lower, meanSteps, margin, live, Reply, cleared, accepted, known, new, value, refused, refusal, taken}
+use Rattle.calls.specs.Calls.{Call, clear, fileModel, fileDelivery, upper, lower, meanSteps, margin, live, Reply, cleared, accepted, known, new, value, refused, refusal, taken}
 
 -- ---- which files are held
 

@@ -2,36 +2,12 @@
 use Prim.Native.Nat.{ℕ}
 use mathlib.Core.List.{List, [], _∷_}
 use mathlib.Core.Option.{Option, none, some}
-use Rattle.outcome.specs.declared.Outcome.{Outcome}
-use Rattle.outcome.specs.declared.Outcome.the-variants as Outcomes
-use Rattle.outcome.specs.Reasons.{numberOf}
+use Rattle.calls.specs.Answers.{modelReply, deliveryReply, answerReply}
 use Rattle.register.specs.declared.Register.{Register}
-use Rattle.register.specs.declared.answer.Mark.{Mark}
-use Rattle.register.specs.declared.answer.Mark.the-variants as Marks
-use Rattle.register.specs.declared.answer.Answer.{Answer}
-use Rattle.register.specs.declared.answer.Answer.the-variants as Answers
 use Rattle.register.specs.Filing as Filing
 use Rattle.register.specs.Questions.{upperIn, lowerIn, meanIn, marginIn, liveIn}
-use Rattle.history.specs.Calls.{Call, clear, fileModel, fileDelivery, upper, lower, meanSteps, margin, live, Reply, cleared, accepted, known, new, value, refused}
+use Rattle.calls.specs.Calls.{Call, clear, fileModel, fileDelivery, upper, lower, meanSteps, margin, live, Reply, cleared}
 use Rattle.history.specs.Plain.{Event, Pair}
-
--- The number and the values of document 01 for each case of the answers of code. An accepted delivery is always marked.
-abbrev pub modelReply : Outcome → Reply
-modelReply Outcomes.Accepted = accepted
-modelReply (Outcomes.Refused x i k) = refused (numberOf x) i k
-
-abbrev pub markReply : Mark → Reply
-markReply Marks.Known = known
-markReply Marks.New = new
-markReply Marks.Absent = accepted
-
-abbrev pub deliveryReply : Outcome → Mark → Reply
-deliveryReply Outcomes.Accepted m = markReply m
-deliveryReply (Outcomes.Refused x i k) m = refused (numberOf x) i k
-
-abbrev pub answerReply : Answer → Reply
-answerReply (Answers.Value n) = value n
-answerReply (Answers.Refused x i k) = refused (numberOf x) i k
 
 -- The register after a call, and the reply.
 unfoldable pub afterCall : Register → Call → Register

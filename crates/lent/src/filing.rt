@@ -1,8 +1,8 @@
 // The filings on a lent register: each calls the filing by value and writes the register back, which on refusal is the same value.
 
+use calls::Mark;
 use outcome::Outcome;
 use register::Register;
-use register::answer::Mark;
 ghost use mathlib.Core.Path.{_≡_};
 ghost use Rattle.register.specs.Filing.{fileModel, fileDelivery};
 

@@ -3,7 +3,7 @@
 use Prim.Native.Nat.{ℕ}
 use mathlib.Core.List.{List, [], _∷_}
 use lib.IntN.{pos, negsuc}
-use Rattle.history.specs.Calls.{value, refusal}
+use Rattle.calls.specs.Calls.{value, refusal}
 use Rattle.lines.specs.Lines.{tableLine, marginLine, chanceLine, stepsLine, refusedLine}
 
 -- A line and its bytes.

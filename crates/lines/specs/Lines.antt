@@ -6,7 +6,7 @@ use lib.IntN.{ℤ}
 use Rattle.ppda.specs.Live.{isLive}
 use Rattle.text.specs.Decimal.{decimal, signed}
 use Rattle.text.specs.Texts.{fields}
-use Rattle.history.specs.Calls.{Reply, cleared, accepted, known, new, value, refused}
+use Rattle.calls.specs.Calls.{Reply, cleared, accepted, known, new, value, refused}
 
 -- What a field shows of a reply: its number, or `-` where the register has no number to show.
 abbrev pub shown : Reply → List ℕ

@@ -2,7 +2,7 @@
 use Prim.Native.Nat.{ℕ, _+_, _*_}
 use mathlib.Core.Bool.{cond}
 use mathlib.Core.List.{List, []}
-use Rattle.history.specs.Run.{answerReply}
+use Rattle.calls.specs.Answers.{answerReply}
 use Rattle.lines.specs.declared.Chance.{Chance}
 use Rattle.lines.specs.Lines.{chanceLine}
 

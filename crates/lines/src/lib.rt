@@ -1,7 +1,7 @@
 // The lines of a report, each put at `at`, and what they show of a register's answers.
 
+use calls::Answer;
 use live::exits::is_live;
-use register::answer::Answer;
 use text::put;
 use text::put_byte;
 use text::put_field;
@@ -12,7 +12,7 @@ ghost use mathlib.Core.List.{_∷_};
 ghost use Prim.Native.Nat.{_+_, _≤_};
 ghost use lib.ListN.{length};
 ghost use Rattle.text.specs.Walks.{Put};
-ghost use Rattle.history.specs.Run.{answerReply};
+ghost use Rattle.calls.specs.Answers.{answerReply};
 ghost use Rattle.lines.specs.Walks.{tableRoom, marginRoom, refusedRoom, chanceRoom, stepsRoom, chanceText};
 ghost use Rattle.lines.specs.Lines.{shown, saysLive, tableLine, marginLine, stepsBy, refusedLine};
 

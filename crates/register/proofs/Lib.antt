@@ -1,3 +1,2 @@
--- The register: what each filing comes to, and answers.
-pub mod Answers
+-- The register: what each filing comes to.
 pub mod Steps

@@ -24,8 +24,8 @@ use Rattle.held.specs.declared.HeldModel.{HeldModel}
 use Rattle.held.specs.declared.HeldDelivery.the-variants as Held
 use Rattle.held.specs.declared.Numbers.{Numbers}
 use Rattle.held.specs.Held.{modelHeld, numbersHeld, noNumbers, holdsModel, isHeld, shapeAs}
-use Rattle.register.specs.declared.answer.Mark.{Mark}
-use Rattle.register.specs.declared.answer.Mark.the-variants.{Known, New}
+use Rattle.calls.specs.declared.Mark.{Mark}
+use Rattle.calls.specs.declared.Mark.the-variants.{Known, New}
 use Rattle.register.specs.declared.Register.{Register}
 use Rattle.register.specs.declared.Filed.{Filed}
 use Rattle.register.specs.declared.Received.{Received}

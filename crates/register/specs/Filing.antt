@@ -17,8 +17,8 @@ use Rattle.walks.specs.Order.{entriesIn}
 use Rattle.certificate.specs.Verdict.{verdict}
 use Rattle.held.specs.declared.HeldDelivery.the-variants as Held
 use Rattle.held.specs.declared.Numbers.{Numbers}
-use Rattle.register.specs.declared.answer.Mark.{Mark}
-use Rattle.register.specs.declared.answer.Mark.the-variants.{Known, New, Absent}
+use Rattle.calls.specs.declared.Mark.{Mark}
+use Rattle.calls.specs.declared.Mark.the-variants.{Known, New, Absent}
 use Rattle.register.specs.declared.Register.{Register}
 use Rattle.register.specs.declared.Filed.{Filed}
 use Rattle.register.specs.declared.Received.{Received}

@@ -1,22 +1,11 @@
 -- The five questions, answered by a register (document 01, "Filing and questions" and "Reasons found in the register").
 use Prim.Native.Nat.{ℕ}
-use mathlib.Core.Bool.{Bool, true, false}
-use lib.IntN.{pos}
-use Rattle.outcome.specs.declared.Reason.the-variants.{NoModel, NoDelivery, NotOfModel, NoBlock}
+use mathlib.Core.Bool.{true}
+use Rattle.calls.specs.declared.Answer.{Answer}
+use Rattle.calls.specs.Answers.{answered}
 use Rattle.register.specs.declared.Register.{Register}
-use Rattle.register.specs.declared.answer.Answer.{Answer}
-use Rattle.register.specs.declared.answer.Answer.the-variants.{Value, Refused}
 use Rattle.held.specs.Held.{holdsModel, isHeld, lowersStand, meansStand}
 use Rattle.held.specs.Places.{hasRow, hasEntry, rowValue, entryValue}
-
--- The first reason that applies, or the number: whether a model is held (40), a delivery (42), the states and symbols are the held model's
--- (44), the block stands (43).
-abbrev pub answered : Bool → Bool → Bool → Bool → ℕ → Answer
-answered false d i k v = Refused NoModel 0 (pos 0)
-answered true false i k v = Refused NoDelivery 0 (pos 0)
-answered true true false k v = Refused NotOfModel 0 (pos 0)
-answered true true true false v = Refused NoBlock 0 (pos 0)
-answered true true true true v = Value v
 
 -- An entry's upper, its lower, a row's mean steps, the margin, and an entry's live mark, which needs a model only.
 unfoldable pub upperIn : Register → ℕ → ℕ → ℕ → Answer

@@ -1,8 +1,8 @@
 // The register, a value: it holds at most one model and one delivery, takes filings and answers questions. A refused call leaves it as it is.
 
-use answer::Answer;
-use answer::Mark;
-use answer::answered;
+use calls::Answer;
+use calls::Mark;
+use calls::answered;
 use held::HeldDelivery;
 use held::HeldModel;
 use held::Numbers;
@@ -27,7 +27,6 @@ use outcome::Reason;
 use outcome::is_refused;
 use outcome::refused;
 
-pub mod answer; // answer.rt: what the calls answer
 mod marks; // marks.rt: the mark of an accepted delivery
 
 ghost use mathlib.Core.Path.{_≡_};

@@ -1,6 +1,6 @@
 // The mark of an accepted delivery.
 
-use super::answer::Mark;
+use calls::Mark;
 use held::Numbers;
 use held::lists::same;
 ghost use mathlib.Core.Path.{_≡_};

@@ -15,10 +15,11 @@ use Rattle.model.specs.Records.{recordsOf, statesOf, symbolsOf}
 use Rattle.model.specs.declared.sizes.Sizes.{Sizes}
 use Rattle.model.specs.Sizes.{sizesOf, Fits}
 use Rattle.register.specs.declared.Register.{Register}
-use Rattle.register.specs.declared.answer.Answer.{Answer}
+use Rattle.calls.specs.declared.Answer.{Answer}
 use Rattle.register.specs.Questions.{upperIn, lowerIn, marginIn, liveIn}
-use Rattle.history.specs.Calls.{Call, Reply, live}
-use Rattle.history.specs.Run.{answerReply, replyOf}
+use Rattle.calls.specs.Calls.{Call, Reply, live}
+use Rattle.calls.specs.Answers.{answerReply}
+use Rattle.history.specs.Run.{replyOf}
 use Rattle.report.specs.declared.Printout.{Printout}
 use Rattle.report.specs.Walks.{room, HoldsText, linesWith}
 use Rattle.gaps.specs.Gaps.{gapOf, Gaps}

@@ -10,7 +10,7 @@ use Rattle.walks.specs.Order.{byRow, eachRow, eachEntry}
 use Rattle.ppda.specs.Equations.{Vector}
 use Rattle.walks.proofs.Places.{row-at}
 use Rattle.walks.proofs.Sums.{sumTo-cong}
-use Rattle.history.specs.Calls.{Call, Reply}
+use Rattle.calls.specs.Calls.{Call, Reply}
 use Rattle.report.specs.Printed.{liveAt, liveEntries, chanceAt, chanceLines, stepsAt, stepsLines}
 
 -- ---- lines

@@ -14,15 +14,16 @@ use Rattle.outcome.specs.declared.Outcome.{Outcome}
 use Rattle.outcome.specs.declared.Outcome.the-variants.{Accepted, Refused}
 use Rattle.outcome.specs.Tests.{isRefused}
 use Rattle.certificate.specs.Verdict.{verdict}
-use Rattle.register.specs.declared.answer.Mark.{Mark}
-use Rattle.register.specs.declared.answer.Mark.the-variants.{Known, New, Absent}
+use Rattle.calls.specs.declared.Mark.{Mark}
+use Rattle.calls.specs.declared.Mark.the-variants.{Known, New, Absent}
 use Rattle.register.specs.declared.Register.{Register}
 use Rattle.register.specs.declared.Filed.{Filed}
 use Rattle.register.specs.declared.Received.{Received}
 use Rattle.register.specs.Filing.{cleared, fileModel, fileDelivery}
-use Rattle.history.specs.Calls as calls
+use Rattle.calls.specs.Calls as calls
 use Rattle.history.specs.Plain.{lastModel, lastDelivery}
-use Rattle.history.specs.Run.{modelReply, markReply, deliveryReply, afterCall, replyOf, registerAfter, replyTo, history}
+use Rattle.calls.specs.Answers.{modelReply, markReply, deliveryReply}
+use Rattle.history.specs.Run.{afterCall, replyOf, registerAfter, replyTo, history}
 use Rattle.history.proofs.Plain.{right-pair}
 use Rattle.lines.specs.Lines.{refusedLine}
 use Rattle.report.specs.Walks.{HoldsModel, refusalOf}

@@ -14,8 +14,9 @@ use Rattle.register.specs.declared.Register.{Register}
 use Rattle.register.specs.declared.Filed.{Filed}
 use Rattle.held.specs.Held.{holdsModel, noModel}
 use Rattle.register.specs.Filing.{cleared, fileModel}
-use Rattle.history.specs.Calls as calls
-use Rattle.history.specs.Run.{modelReply, replyOf, replies}
+use Rattle.calls.specs.Calls as calls
+use Rattle.calls.specs.Answers.{modelReply}
+use Rattle.history.specs.Run.{replyOf, replies}
 use Rattle.history.proofs.Edges.{exchanges-replied}
 
 not-refused : (o : Outcome) → modelReply o ≡ calls.accepted → isRefused o ≡ false

@@ -8,7 +8,7 @@ use Rattle.walks.specs.Sums.{bit, sumTo}
 use Rattle.walks.specs.Order.{rowsIn, entriesIn, byRow, byEntry}
 use Rattle.ppda.specs.Equations.{Vector}
 use Rattle.model.specs.Records.{recordsOf, statesOf, symbolsOf}
-use Rattle.history.specs.Calls.{Call, fileModel, fileDelivery, upper, lower, meanSteps, margin, live, Reply, cleared, accepted, known, new, value, refused}
+use Rattle.calls.specs.Calls.{Call, fileModel, fileDelivery, upper, lower, meanSteps, margin, live, Reply, cleared, accepted, known, new, value, refused}
 use Rattle.history.specs.Run.{replyTo}
 use Rattle.gaps.specs.Gaps.{gapOf}
 use Rattle.lines.specs.Lines.{tableLine, marginLine, chanceLine, refusedLine, saysLive, stepsBy}

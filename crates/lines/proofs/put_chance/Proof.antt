@@ -4,7 +4,7 @@ use mathlib.Core.List.{[], _∷_}
 use borrow.Author.Tests.{not-true, not-false}
 use borrow.Author.Needs.{needs}
 use Rattle.text.specs.Decimal.{decimal}
-use Rattle.history.specs.Run.{answerReply}
+use Rattle.calls.specs.Answers.{answerReply}
 use Rattle.text.proofs.Puts.{put-none, put-then, put-fields}
 use Rattle.lines.specs.Lines.{shown, chanceWord}
 use Rattle.lines.proofs.put_chance.Statement.{statement}

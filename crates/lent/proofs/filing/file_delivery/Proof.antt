@@ -18,8 +18,8 @@ use Rattle.outcome.proofs.Outcome as O
 use Rattle.outcome.proofs.Outcome.Laws as O′
 use Rattle.register.specs.declared.Received.{Received}
 use Rattle.register.specs.Filing.{fileDelivery}
-use Rattle.register.proofs.answer.Mark as K
-use Rattle.register.proofs.answer.Mark.Laws as K′
+use Rattle.calls.proofs.Mark as K
+use Rattle.calls.proofs.Mark.Laws as K′
 use Rattle.register.proofs.Received as F
 use Rattle.register.proofs.Received.Laws as F′
 use Rattle.register.proofs.Register.file_delivery.Symbol as callee

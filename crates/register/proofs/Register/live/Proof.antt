@@ -3,7 +3,7 @@ use mathlib.Core.Path.{refl, _∙_}
 use borrow.Author.Needs.{needs}
 use Rattle.register.specs.Questions.{liveIn}
 use Rattle.held.proofs.Bounds.{narrow-held, has-entry-held, entry-value-held}
-use Rattle.register.proofs.Answers.{answered-same}
+use Rattle.calls.proofs.Answers.{answered-same}
 use Rattle.register.proofs.Register.live.Statement.{statement}
 use Rattle.register.proofs.Register.live.Tie as tie
 

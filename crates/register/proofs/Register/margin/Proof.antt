@@ -2,7 +2,7 @@
 use mathlib.Core.Path.{refl, _∙_}
 use borrow.Author.Needs.{needs}
 use Rattle.register.specs.Questions.{marginIn}
-use Rattle.register.proofs.Answers.{answered-same}
+use Rattle.calls.proofs.Answers.{answered-same}
 use Rattle.register.proofs.Register.margin.Statement.{statement}
 use Rattle.register.proofs.Register.margin.Tie as tie
 

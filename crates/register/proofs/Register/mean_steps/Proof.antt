@@ -3,7 +3,7 @@ use mathlib.Core.Path.{_∙_}
 use borrow.Author.Needs.{needs}
 use Rattle.register.specs.Questions.{meanIn}
 use Rattle.held.proofs.Bounds.{narrow-held, has-row-held, row-value-held}
-use Rattle.register.proofs.Answers.{answered-same}
+use Rattle.calls.proofs.Answers.{answered-same}
 use Rattle.register.proofs.Register.mean_steps.Statement.{statement}
 use Rattle.register.proofs.Register.mean_steps.Tie as tie
 

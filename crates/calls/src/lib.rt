@@ -1,9 +1,9 @@
-// What the calls on a register answer.
+// What the calls on a register answer, and in which order its own reasons come.
 
 use outcome::Reason;
 ghost use mathlib.Core.Path.{_≡_};
 ghost use lib.IntN.{pos};
-ghost use Rattle.register.specs.Questions.{answered};
+ghost use Rattle.calls.specs.Answers.{answered};
 
 // The mark of an accepted delivery; absent where none was accepted.
 pub enum Mark {
@@ -35,7 +35,7 @@ fn refused(reason: Reason) -> Answer
 
 // The answer to a question: the first reason that applies, by whether a model is held, whether a delivery is held, whether the states and
 // symbols are the model's and whether the block stands; or the number.
-pub(crate) fn answered(model: bool, delivery: bool, inside: bool, block: bool, value: u64) -> Answer
+pub fn answered(model: bool, delivery: bool, inside: bool, block: bool, value: u64) -> Answer
     ensures { λ r. ⌜ r ≡ answered model delivery inside block value ⌝ }
 {
     if !model {

@@ -3,8 +3,8 @@ use mathlib.Core.Bool.{true}
 use mathlib.Core.Path.{_≡_}
 use borrow.Author.Needs.{needs}
 use borrow.Author.Tests.{not-true, not-false}
-use Rattle.register.proofs.answer.answered.Statement.{statement}
-use Rattle.register.proofs.answer.answered.Tie as tie
+use Rattle.calls.proofs.answered.Statement.{statement}
+use Rattle.calls.proofs.answered.Tie as tie
 
 -- What each test that is passed says.
 model-held : (c : tie.Else1) → c .before .args .model ≡ true

@@ -1,0 +1,2 @@
+-- The law of answers.
+pub mod Answers
