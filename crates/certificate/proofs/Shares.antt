@@ -19,7 +19,7 @@ use Rattle.live.specs.Exits.{exitMarks}
 use Rattle.model.specs.Accepted.{Sized}
 use Rattle.model.proofs.Accepted.{sized-model}
 use Rattle.ppda.proofs.Vectors.{f-same}
-use Rattle.inequalities.specs.Shares.{Strict, leastShare}
+use Rattle.shares.specs.Shares.{Strict, leastShare}
 use Rattle.certificate.specs.Verdict.{verdict}
 use Rattle.certificate.specs.Accepted.{LowersRight}
 use Rattle.certificate.proofs.Accepted.{live-exactly, delivery-accepted, shaped-as}

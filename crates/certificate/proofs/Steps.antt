@@ -37,7 +37,7 @@ use Rattle.model.proofs.Accepted.{sized-model}
 use Rattle.inequalities.specs.Inequalities.{deadTests, belowTests, lowerTests}
 use Rattle.inequalities.specs.declared.sides.Side.the-variants.{Upper, StrictUpper, Lower}
 use Rattle.inequalities.specs.Walks.{deadAt, belowAt, sideAt, meanAt}
-use Rattle.inequalities.specs.Shares.{Strict, leastShare}
+use Rattle.shares.specs.Shares.{Strict, leastShare}
 use Rattle.certificate.specs.declared.answer.Margin.the-variants.{Shown, Absent}
 use Rattle.certificate.specs.Verdict.{numberTests, shapedTests, deliveryTests, verdict}
 use Rattle.certificate.specs.Accepted.{UppersRight}

@@ -2,12 +2,12 @@
 
 use delivery::format::RECORD_BYTES;
 use delivery::shape::Shape;
-use inequalities::margin::margin_of;
 use live::rounds::find_marks;
 use model::format::MOST_ROWS;
 use model::sizes::Sizes;
 use rows::STARTS;
 use rows::find_starts;
+use shares::margin::margin_of;
 ghost use mathlib.Core.Path.{_≡_};
 ghost use mathlib.Core.Bool.{true};
 ghost use Rattle.delivery.specs.Shapes.{hasLowers};

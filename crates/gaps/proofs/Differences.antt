@@ -20,7 +20,7 @@ use Rattle.delivery.specs.Shapes.{shapeOf}
 use Rattle.delivery.specs.Numbers.{uppersOf}
 use Rattle.delivery.proofs.Shapes.{uppers-fit}
 use Rattle.rows.specs.Starts.{Indexed}
-use Rattle.inequalities.specs.Shares.{gapAt, Standing}
+use Rattle.shares.specs.Shares.{gapAt, Standing}
 use Rattle.certificate.specs.Accepted.{UppersRight}
 use Rattle.certificate.specs.Verdict.{verdict}
 use Rattle.certificate.proofs.Accepted.{delivery-accepted}

@@ -1,16 +1,16 @@
 // u − f(u) at the entries of an accepted delivery.
 
 use delivery::format::RECORD_BYTES;
-use inequalities::gaps::gap;
 use model::format::MOST_ENTRIES;
 use model::sizes::Sizes;
 use model::sizes::sizes_of;
 use rows::STARTS;
 use rows::find_starts;
+use shares::gaps::gap;
 ghost use mathlib.Core.Path.{_≡_};
 ghost use Rattle.outcome.specs.declared.Outcome.the-variants.{Accepted};
 ghost use Rattle.model.specs.Sizes.{sizesOf};
-ghost use Rattle.inequalities.specs.Shares.{Standing};
+ghost use Rattle.shares.specs.Shares.{Standing};
 ghost use Rattle.certificate.specs.Verdict.{verdict};
 ghost use Rattle.gaps.specs.Gaps.{Gaps};
 

@@ -1,3 +1,2 @@
--- The laws behind this crate's code: the tests over plain values, and the margin as a running least value.
+-- The laws behind this crate's code: the tests over plain values.
 pub mod Tests
-pub mod Shares

@@ -1,8 +1,6 @@
-// The tests 23 to 27 of a delivery's numbers, the margin, and u − f(u). These functions serve the check of a delivery: each asks what an accepted
-// model and a right layout give.
+// The tests 23 to 27 of a delivery's numbers. These functions serve the check of a delivery: each asks what an accepted model and a right layout
+// give.
 
-pub mod gaps; // gaps.rt: u − f(u)
-pub mod margin; // margin.rt: the margin
 pub mod marks; // marks.rt: the tests 23 and 25, number by number
 pub mod means; // means.rt: the test 27
 pub mod sides; // sides.rt: the tests 24 and 26, which need f
