@@ -19,7 +19,8 @@ use Rattle.model.specs.Accepted.{Sized}
 use Rattle.live.specs.Rounds.{markProduct}
 use Rattle.live.specs.Rounds.{nextMark}
 use Rattle.model.specs.Rules.{pushAt}
-use Rattle.rows.proofs.Sums.{sumTo-none, RowSum, row-begin, row-record, row-more, row-end}
+use Rattle.walks.proofs.Sums.{sumTo-none}
+use Rattle.rows.proofs.Sums.{RowSum, row-begin, row-record, row-more, row-end}
 
 -- ---- signs
 

@@ -6,25 +6,17 @@ use native.Mathlib.Omega.{arith}
 use mathlib.Core.Bool.{Bool, true, false}
 use mathlib.Core.List.{List}
 use mathlib.Core.Logic.{_⊎_, inl, inr}
-use mathlib.Core.Path.{_≡_, refl, sym, ap, _∙_}
+use mathlib.Core.Path.{_≡_, refl, sym, _∙_}
 use lib.Dec.{eqb}
-use lib.ListN.{length, getD, set, replicate, length-set, getD-replicate}
-use lib.Seq.{getD-set-same, getD-set-other}
-use borrow.Author.Tests.{eqb-true, eqb-false, eq-eqb, ne-eqb}
+use borrow.Author.Tests.{eqb-true, eq-eqb}
 use Rattle.walks.proofs.Places.{row-lower, row-once}
-use Rattle.walks.specs.Sums.{bit, sumTo}
-use Rattle.ppda.specs.Units.{weightUnit}
-use Rattle.walks.specs.Order.{rowsIn}
 use Rattle.ppda.specs.Rules.{fits, overRow}
-use Rattle.walks.proofs.Sums.{sumTo-cong, sumTo-le, sumTo-step}
+use Rattle.walks.proofs.Sums.{sumTo-cong}
 use Rattle.ppda.proofs.Rows.{fits-exactly}
-use Rattle.model.specs.declared.sizes.Sizes.{Sizes}
-use Rattle.model.specs.Format.{mostRows}
-use Rattle.model.specs.Sizes.{sizesOf, Narrow}
-use Rattle.model.specs.Records.{recordsOf, symbolsOf, state, symbol, weight, key}
+use Rattle.model.specs.Records.{recordsOf, symbolsOf, state, symbol, key}
 use Rattle.model.specs.Rules.{ruleOf, rulesOf, rowOf, rowSum}
-use Rattle.model.specs.Accepted.{Above, RecordsRight, ModelFile}
-use Rattle.model.proofs.Records.{sizes-fit, fits-narrow, state-below, symbol-below, over-row}
+use Rattle.model.specs.Accepted.{Above, Ascending}
+use Rattle.model.proofs.Records.{symbol-below, over-row}
 
 -- ---- the rows of records
 
@@ -59,7 +51,7 @@ next-row b i l (inl h) =
 next-row b i l (inr (e, inl h)) = rw e (omega arith)
 next-row b i l (inr (e, inr (f, h))) = rw (e, f) (le-refl _)
 
-pub rows-ascend : (b : List ℕ) → ModelFile b → (i j : ℕ) → i ≤ j → j < recordsOf b
+pub rows-ascend : (b : List ℕ) → Ascending b → (i j : ℕ) → i ≤ j → j < recordsOf b
     → rowOf b (symbolsOf b) i ≤ rowOf b (symbolsOf b) j
 rows-ascend b m i zero h l = let e : i ≡ 0 = omega arith in rw e (le-refl _)
 rows-ascend b m i (suc j) h l = go (eq-or-lt-of-le h) (λ c. rows-ascend b m i j c (omega arith))
@@ -67,4 +59,4 @@ rows-ascend b m i (suc j) h l = go (eq-or-lt-of-le h) (λ c. rows-ascend b m i j
     go : (i ≡ suc j) ⊎ (i < suc j) → (i ≤ j → rowOf b (symbolsOf b) i ≤ rowOf b (symbolsOf b) j)
         → rowOf b (symbolsOf b) i ≤ rowOf b (symbolsOf b) (suc j)
     go (inl e) rest = rw e (le-refl (rowOf b (symbolsOf b) (suc j)))
-    go (inr c) rest = le-trans (rest (le-of-suc-le-suc c)) (next-row b j (omega arith) (m .ascending j l))
+    go (inr c) rest = le-trans (rest (le-of-suc-le-suc c)) (next-row b j (omega arith) (m j l))

@@ -36,10 +36,14 @@ pub record RecordsRight (b : List ℕ) : Type 0 where
   pub whole : length b ≡ recordBytes * recordsOf b
   pub right : (i : ℕ) → i < recordsOf b → RecordRight b i
 
+-- Each record lies above the one before it (14).
+abbrev pub Ascending : List ℕ → Type 0
+Ascending b = (i : ℕ) → suc i < recordsOf b → Above (key b (suc i)) (key b i)
+
 -- A model file: its records are right and ascend strictly (14), and each row's weights sum to 65,536 (15).
 pub record ModelFile (b : List ℕ) : Type 0 where
   pub records : RecordsRight b
-  pub ascending : (i : ℕ) → suc i < recordsOf b → Above (key b (suc i)) (key b i)
+  pub ascending : Ascending b
   pub row : (p z : ℕ) → p < statesOf b → z < symbolsOf b → overRow (rulesOf b) p z (λ r. 1) ≡ weightUnit
 
 -- An accepted model file with s states and g symbols.

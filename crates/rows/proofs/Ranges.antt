@@ -15,7 +15,8 @@ use Rattle.model.specs.Records.{recordsOf}
 use Rattle.model.specs.Rules.{rowOf}
 use Rattle.model.specs.Accepted.{Sized}
 use Rattle.model.proofs.Rows.{rows-ascend}
-use Rattle.rows.specs.Starts.{StartsAt, Starts}
+use Rattle.model.specs.Rules.{StartsAt}
+use Rattle.rows.specs.Starts.{Starts}
 
 -- One number more of a list is as it should be.
 pub set-more : (P : ℕ → ℕ → Type 0) {k a : ℕ} (l : List ℕ) → k < length l → ((e : ℕ) → e < k → P e (getD l e 0)) → P k a
@@ -34,7 +35,7 @@ starts-here {b} {s} {g} {k} {a} sized l before here =
     record {
       within = omega arith;
       before = before;
-      after = λ i h m. le-trans here (rw (sized .symbols) (rows-ascend b (sized .file) a i h m));
+      after = λ i h m. le-trans here (rw (sized .symbols) (rows-ascend b (sized .file .ascending) a i h m));
     }
 
 -- Where every record is of an earlier row, row k starts at the end.

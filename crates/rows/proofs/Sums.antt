@@ -12,7 +12,7 @@ use Rattle.walks.proofs.Places.{row-of, row-below}
 use Rattle.walks.specs.Sums.{bit, sumTo}
 use Rattle.ppda.specs.Units.{weightUnit}
 use Rattle.ppda.specs.Rules.{Push, nothing, one, two, fits, overRow}
-use Rattle.walks.proofs.Sums.{sumTo-step, sumTo-le, sumTo-mono}
+use Rattle.walks.proofs.Sums.{sumTo-none, sumTo-past, sumTo-step, sumTo-le, sumTo-mono}
 use Rattle.ppda.proofs.Rows.{row-const}
 use Rattle.model.specs.Format.{mostStates}
 use Rattle.model.specs.Records.{recordsOf, target, weight}
@@ -20,25 +20,12 @@ use Rattle.model.specs.Rules.{pushOf, pushAt, ruleOf, rulesOf, rowOf}
 use Rattle.model.proofs.Records.{over-row}
 use Rattle.model.proofs.Rows.{row-fits}
 use Rattle.model.proofs.Accepted.{sized-fits}
-use Rattle.rows.specs.Starts.{StartsAt, Starts}
+use Rattle.model.specs.Rules.{StartsAt}
+use Rattle.rows.specs.Starts.{Starts}
 use Rattle.model.specs.Accepted.{Sized}
 use Rattle.rows.proofs.Ranges.{starts-ascend}
 
 -- ---- sums by their last term
-
-pub sumTo-none : (h : ℕ → ℕ) → sumTo h 0 ≡ 0
-unfolding sumTo
-sumTo-none h = refl
-
--- Terms of 0 at the end add nothing.
-sumTo-past : (h : ℕ → ℕ) (a n : ℕ) → a ≤ n → ((i : ℕ) → a ≤ i → i < n → h i ≡ 0) → sumTo h a ≡ sumTo h n
-unfolding sumTo
-sumTo-past h a zero l none = let e : a ≡ 0 = omega arith in rw e
-sumTo-past h a (suc n) l none = go (eq-or-lt-of-le l) (λ m. sumTo-past h a n m (λ i c d. none i c (omega arith)))
-  where
-    go : (a ≡ suc n) ⊎ (a < suc n) → (a ≤ n → sumTo h a ≡ sumTo h n) → sumTo h a ≡ sumTo h n + h n
-    go (inl e) rest = rw e
-    go (inr m) rest = omega (arith, rest (le-of-suc-le-suc m), none n (le-of-suc-le-suc m) (le-refl (suc n)))
 
 sumTo-grows : (h : ℕ → ℕ) (a n : ℕ) → a ≤ n → sumTo h a ≤ sumTo h n
 unfolding sumTo

@@ -1,18 +1,11 @@
 -- Where the records of each row start.
-use Prim.Native.Nat.{ℕ, _≤_, _<_}
+use Prim.Native.Nat.{ℕ, _≤_}
 use mathlib.Core.List.{List}
 use lib.ListN.{getD}
 use Rattle.walks.specs.Order.{rowsIn}
 use Rattle.model.specs.declared.sizes.Sizes.{Sizes}
-use Rattle.model.specs.Records.{recordsOf}
-use Rattle.model.specs.Rules.{rowOf}
+use Rattle.model.specs.Rules.{StartsAt}
 use Rattle.model.specs.Accepted.{Sized}
-
--- Row number k starts at record a: every record before it is of an earlier row, and every other of row k or later.
-pub record StartsAt (b : List ℕ) (g k a : ℕ) : Type 0 where
-  pub within : a ≤ recordsOf b
-  pub before : (i : ℕ) → i < a → rowOf b g i < k
-  pub after : (i : ℕ) → a ≤ i → i < recordsOf b → k ≤ rowOf b g i
 
 -- The list says where each of the n rows starts, and where the last ends.
 abbrev pub Starts : List ℕ → ℕ → ℕ → List ℕ → Type 0

@@ -12,7 +12,8 @@ ghost use Rattle.model.specs.Format.{mostRows};
 ghost use Rattle.model.specs.Records.{recordsOf};
 ghost use Rattle.model.specs.Rules.{rowOf};
 ghost use Rattle.model.specs.Accepted.{Sized};
-ghost use Rattle.rows.specs.Starts.{StartsAt, Indexed};
+ghost use Rattle.model.specs.Rules.{StartsAt};
+ghost use Rattle.rows.specs.Starts.{Indexed};
 
 // How many numbers say where the rows start and where the last ends.
 pub const STARTS: usize = MOST_ROWS + 1;

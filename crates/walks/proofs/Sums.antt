@@ -81,6 +81,20 @@ sum-flatMap h k (x ∷ l) = sum-append h (k x) (flatMap k l) ∙ ap (λ n. sum h
 -- ---- over the numbers below n
 
 -- One more term, as a loop adds it.
+pub sumTo-none : (h : ℕ → ℕ) → sumTo h 0 ≡ 0
+unfolding sumTo
+sumTo-none h = refl
+
+-- Terms of 0 at the end add nothing.
+pub sumTo-past : (h : ℕ → ℕ) (a n : ℕ) → a ≤ n → ((i : ℕ) → a ≤ i → i < n → h i ≡ 0) → sumTo h a ≡ sumTo h n
+unfolding sumTo
+sumTo-past h a zero l none = let e : a ≡ 0 = omega arith in rw e
+sumTo-past h a (suc n) l none = go (eq-or-lt-of-le l) (λ m. sumTo-past h a n m (λ i c d. none i c (omega arith)))
+  where
+    go : (a ≡ suc n) ⊎ (a < suc n) → (a ≤ n → sumTo h a ≡ sumTo h n) → sumTo h a ≡ sumTo h n + h n
+    go (inl e) rest = rw e
+    go (inr m) rest = omega (arith, rest (le-of-suc-le-suc m), none n (le-of-suc-le-suc m) (le-refl (suc n)))
+
 pub sumTo-step : (h : ℕ → ℕ) (n : ℕ) → sumTo h (n + 1) ≡ sumTo h n + h n
 unfolding sumTo
 sumTo-step h n = rw add-one

@@ -21,7 +21,7 @@ use Rattle.walks.specs.Order.{rowsIn, rowAt}
 use Rattle.model.specs.Format.{recordBytes, mostBytes, mostStates, mostSymbols, mostPushes}
 use Rattle.model.specs.Records.{recordsOf, statesOf, symbolsOf, state, symbol, target, pushes, top, under, weight, key}
 use Rattle.model.specs.Rules.{rowSum}
-use Rattle.model.specs.Accepted.{RecordRight, Above, RecordsRight, ModelFile, Sized}
+use Rattle.model.specs.Accepted.{RecordRight, Above, RecordsRight, Ascending, ModelFile, Sized}
 use Rattle.model.specs.Sizes.{sizesOf}
 use Rattle.model.specs.declared.sizes.Sizes.{Sizes}
 use Rattle.model.proofs.Rows.{row-sum}
@@ -145,16 +145,22 @@ records-right b e f =
     let records = passed-each (recordsOf b) (recordTests b) .0 (accepted-exactly (each (recordsOf b) (recordTests b)) .0 f) in
     record { some = omega arith; most = omega arith; whole = omega arith; right = λ i l. record-exactly b i .0 (records i l) .0 }
 
+-- And they ascend.
+pub records-ascend : (b : List ℕ) → first (each (recordsOf b) (recordTests b)) ≡ Accepted → Ascending b
+records-ascend b f i l =
+    let records = passed-each (recordsOf b) (recordTests b) .0 (accepted-exactly (each (recordsOf b) (recordTests b)) .0 f) in
+    above-of-ascends b i (record-exactly b (suc i) .0 (records (suc i) l) .1)
+
 file-of-passed : (b : List ℕ) → Passed (modelTests b) → ModelFile b
 unfolding modelTests rowsTests
 file-of-passed b h =
     let whole = not-false _ (h .0) in
     let parts = passed-append (each (recordsOf b) (recordTests b)) (each (rowsIn (statesOf b) (symbolsOf b)) (rowTests b)) .0 (h .1) in
-    let records = passed-each (recordsOf b) (recordTests b) .0 (parts .0) in
+    let records : first (each (recordsOf b) (recordTests b)) ≡ Accepted = accepted-exactly (each (recordsOf b) (recordTests b)) .1 (parts .0) in
     let rows = passed-each (rowsIn (statesOf b) (symbolsOf b)) (rowTests b) .0 (parts .1) in
     record {
-      records = records-right b whole (accepted-exactly (each (recordsOf b) (recordTests b)) .1 (parts .0));
-      ascending = λ i l. above-of-ascends b i (record-exactly b (suc i) .0 (records (suc i) l) .1);
+      records = records-right b whole records;
+      ascending = records-ascend b records;
       row = λ p z hp hz.
           sym (row-sum b p z hz)
           ∙ row-exactly b (rowAt (symbolsOf b) p z) .0 (rows (rowAt (symbolsOf b) p z) (row-below (statesOf b) (symbolsOf b) p z hp hz));

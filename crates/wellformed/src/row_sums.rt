@@ -1,6 +1,5 @@
-// The sums of the weights of the rows.
+// The sums of the weights of the rows. Records ascend, so that those of a row follow each other.
 
-use model::format::MOST_ROWS;
 use model::format::WEIGHT_UNIT;
 use model::record::state;
 use model::record::symbol;
@@ -12,44 +11,56 @@ use outcome::Outcome;
 use outcome::Reason;
 use outcome::refused;
 ghost use mathlib.Core.Path.{_≡_};
-ghost use Prim.Native.Nat.{ℕ, _<_};
-ghost use lib.ListN.{getD};
+ghost use Prim.Native.Nat.{_+_};
 ghost use Rattle.outcome.specs.Tests.{first};
-ghost use Rattle.model.specs.Format.{mostRows};
-ghost use Rattle.model.specs.Rules.{rowSum};
-ghost use Rattle.wellformed.specs.Verdict.{rowsTests};
-ghost use Rattle.model.specs.Accepted.{RecordsRight};
+ghost use Rattle.model.specs.Rules.{rowSum, StartsAt};
+ghost use Rattle.model.specs.Accepted.{RecordsRight, Ascending};
 ghost use Rattle.model.specs.Sizes.{sizesOf};
+ghost use Rattle.wellformed.specs.Verdict.{rowsTests};
 
-// The sum of each row's weights, by row number: each record adds its weight to its row.
-fn sums(model: &[u8], n: Sizes) -> [u64; MOST_ROWS]
-    requires { ⌜ RecordsRight (now model) × (n ≡ sizesOf (now model)) ⌝ }
-    ensures { λ r. ⌜ ((k : ℕ) → k < mostRows → getD r k 0 ≡ rowSum (now (model .entry)) (n .symbols) k) ⌝ }
+// The sum of a row's weights, and the record after its last.
+struct RowSum {
+    sum: u64,
+    next: usize,
+}
+
+// The sum of row k, which starts at record i.
+fn sum_of_row(model: &[u8], n: Sizes, k: usize, i: usize) -> RowSum
+    requires file { ⌜ RecordsRight (now model) × Ascending (now model) × (n ≡ sizesOf (now model)) ⌝ }
+    requires start { ⌜ StartsAt (now model) (n .symbols) k i ⌝ }
+    ensures { λ r. ⌜
+        (r .sum ≡ rowSum (now (model .entry)) (n .symbols) k)
+        × StartsAt (now (model .entry)) (n .symbols) (k + 1) (r .next)
+        ⌝ }
 {
     let end = records(model);
-    let mut sums = [0u64; MOST_ROWS];
-    let mut i = 0;
-    while i < end {
-        let row = n.row(state(model, i), symbol(model, i));
-        sums[row] = sums[row] + weight(model, i);
-        i += 1;
+    let mut sum = 0;
+    let mut at = i;
+    while at < end {
+        if n.row(state(model, at), symbol(model, at)) != k {
+            return RowSum { sum, next: at };
+        }
+        sum += weight(model, at);
+        at += 1;
     }
-    sums
+    RowSum { sum, next: at }
 }
 
 // The tests of the rows, in their order.
 pub(crate) fn check(model: &[u8]) -> Outcome
-    requires { ⌜ RecordsRight (now model) ⌝ }
+    requires { ⌜ RecordsRight (now model) × Ascending (now model) ⌝ }
     ensures { λ r. ⌜ r ≡ first (rowsTests (now (model .entry))) ⌝ }
 {
     let n = sizes_of(model);
     let rows = n.rows();
-    let sums = sums(model, n);
+    let mut next = 0;
     let mut k = 0;
     while k < rows {
-        if sums[k] != WEIGHT_UNIT {
+        let row = sum_of_row(model, n, k, next);
+        if row.sum != WEIGHT_UNIT {
             return refused(Reason::RowSumWrong, k);
         }
+        next = row.next;
         k += 1;
     }
     Outcome::Accepted

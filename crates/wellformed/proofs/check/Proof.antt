@@ -11,7 +11,7 @@ use Rattle.outcome.proofs.Tests.{refusal-not-accepted}
 use Rattle.wellformed.specs.Verdict.{wholeRecords}
 use Rattle.model.specs.Records.{recordsOf}
 use Rattle.wellformed.proofs.Verdict.{recordsOutcome, length-decides, records-decide, rows-decide}
-use Rattle.wellformed.proofs.Accepted.{records-right}
+use Rattle.wellformed.proofs.Accepted.{records-right, records-ascend}
 use Rattle.wellformed.proofs.check.Statement.{statement}
 use Rattle.wellformed.proofs.check.Tie as tie
 
@@ -56,7 +56,7 @@ enum-told-2 : tie.Need-enum-told-2
 enum-told-2 c = search needs
 
 check-requires : tie.Need-check-requires
-check-requires c κs = records-right _ (whole (c .before .before .before .before)) (passed c)
+check-requires c κs = (records-right _ (whole (c .before .before .before .before)) (passed c), records-ascend _ (passed c))
 
 returns-3 : tie.Need-returns-3
 returns-3 c = c .check .ensures ∙ sym (rows-decide _ (whole (c .before .before .before .before .before)) (passed (c .before)))

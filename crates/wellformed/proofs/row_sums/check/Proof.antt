@@ -1,8 +1,8 @@
--- `check`: the loop returns at the first row whose sum is not 65,536, after every row before it has passed.
+-- `check`: the loop returns at the first row whose sum is not 65,536, after every row before it has passed; each row starts where the one before
+-- it ends.
 use Prim.Native.Nat.{_-_, _≤_}
 use native.Mathlib.Omega.{arith}
 use mathlib.Core.Path.{_≡_, sym, ap, _∙_}
-use lib.ListN.{getD}
 use denote.Ref.{now}
 use borrow.Author.Needs.{needs}
 use Rattle.outcome.proofs.Tests.{each-none, each-more, each-hit, refusal-not-accepted, each-end}
@@ -12,51 +12,51 @@ use Rattle.outcome.specs.declared.Outcome.the-variants.{Accepted}
 use Rattle.walks.specs.Order.{rowsIn}
 use Rattle.model.specs.declared.sizes.Sizes.{Sizes}
 use Rattle.model.specs.Format.{mostRows}
-use Rattle.model.specs.Rules.{rowSum}
+use Rattle.model.specs.Rules.{rowSum, StartsAt}
 use Rattle.model.specs.Records.{statesOf, symbolsOf}
 use Rattle.wellformed.specs.Verdict.{rowTests, rowsTests}
+use Rattle.wellformed.proofs.Sums.{starts-first}
 use Rattle.wellformed.proofs.Verdict.{row-fails, row-passes}
 use Rattle.model.proofs.Records.{sizes-fit}
 use Rattle.wellformed.proofs.row_sums.check.Statement.{statement}
 use Rattle.wellformed.proofs.row_sums.check.Tie as tie
 
 abbrev Inv-loop : tie.InvT-loop
-Inv-loop model rows sums k₀ k =
+Inv-loop model n rows next₀ k₀ next k =
     (k ≤ rows) × (rows ≤ mostRows) × (rows ≡ rowsIn (statesOf model) (symbolsOf model)) × (first (each k (rowTests model)) ≡ Accepted)
+    × StartsAt model (n .symbols) k next
 
 abbrev μ-loop : tie.MeasureT-loop
-μ-loop model rows sums k₀ k = rows - k
+μ-loop model n rows next₀ k₀ next k = rows - k
 
--- The number read is the sum of row k.
-sum-read : (c : tie.In-loop Inv-loop μ-loop)
+-- The sum found is that of row k.
+sum-found : (c : tie.After-sum-of-row Inv-loop μ-loop)
     → let model = now (c .before .before .before .before .before .before .args .model) in
-    getD (c .before .before .sums .result) (c .before .loop .k) 0 ≡ rowSum model (symbolsOf model) (c .before .loop .k)
-sum-read c =
-    c .before .before .sums .ensures (c .before .loop .k) (omega arith)
-    ∙ ap (λ (n : Sizes). rowSum (now (c .before .before .before .before .before .before .args .model)) (n .symbols) (c .before .loop .k)) (c .before .before .before .before .sizes-of .ensures .0)
+    c .sum-of-row .result .sum ≡ rowSum model (symbolsOf model) (c .before .before .loop .k)
+sum-found c =
+    c .sum-of-row .ensures .0
+    ∙ ap (λ (n : Sizes). rowSum (now (c .before .before .before .before .before .before .args .model)) (n .symbols) (c .before .before .loop .k)) (c .before .before .before .before .sizes-of .ensures .0)
 
 sizes-of-requires : tie.Need-sizes-of-requires Inv-loop μ-loop
 sizes-of-requires c κs = search needs
 
 rows-requires : tie.Need-rows-requires Inv-loop μ-loop
-rows-requires c κs = rw (c .sizes-of .ensures .0) (sizes-fit _ (c .before .before .pre .right))
-
-sums-requires : tie.Need-sums-requires Inv-loop μ-loop
-sums-requires c κs = (c .before .before .before .pre, c .before .sizes-of .ensures .0)
+rows-requires c κs = rw (c .sizes-of .ensures .0) (sizes-fit _ (c .before .before .pre .0 .right))
 
 loop-holds : tie.Need-loop-holds Inv-loop μ-loop
 loop-holds c = (
   search needs,
-  c .before .rows .ensures .1,
-  c .before .rows .ensures .0 ∙ ap (λ (n : Sizes). rowsIn (n .states) (n .symbols)) (c .before .before .sizes-of .ensures .0),
+  c .rows .ensures .1,
+  c .rows .ensures .0 ∙ ap (λ (n : Sizes). rowsIn (n .states) (n .symbols)) (c .before .sizes-of .ensures .0),
   each-none _,
+  starts-first,
 )
 
-mul-if1 : tie.Need-mul-if1 Inv-loop μ-loop
-mul-if1 c = search needs
-
-array-read-if1 : tie.Need-array-read-if1 Inv-loop μ-loop
-array-read-if1 c = search needs
+sum-of-row-requires : tie.Need-sum-of-row-requires Inv-loop μ-loop
+sum-of-row-requires c κs =
+    let begun = c .before .before .before in
+    let pre = begun .before .before .pre in
+    ((pre .0, pre .1, begun .sizes-of .ensures .0), c .before .loop .inv .4)
 
 refused-requires : tie.Need-refused-requires Inv-loop μ-loop
 refused-requires c κs = search needs
@@ -64,9 +64,9 @@ refused-requires c κs = search needs
 returns : tie.Need-returns Inv-loop μ-loop
 unfolding rowsTests
 returns c =
-    let fails = row-fails _ _ (λ e. c .before .if1 .taken (sum-read (c .before .before) ∙ e)) in
+    let fails = row-fails _ _ (λ e. c .before .if1 .taken (sum-found (c .before .before .before) ∙ e)) in
     c .refused .ensures
-    ∙ sym (each-hit _ _ _ (omega arith) (c .before .before .before .loop .inv .3) (λ a. refusal-not-accepted _ a fails) ∙ fails)
+    ∙ sym (each-hit _ _ _ (omega arith) (c .before .before .before .before .before .loop .inv .3) (λ a. refusal-not-accepted _ a fails) ∙ fails)
 
 add-k : tie.Need-add-k Inv-loop μ-loop
 add-k c = search needs
@@ -79,7 +79,8 @@ loop-again c = (
   omega arith,
   search needs,
   search needs,
-  each-more _ _ (c .before .before .loop .inv .3) (row-passes _ _ (sym (sum-read (c .before)) ∙ c .if1 .left)),
+  each-more _ _ (c .before .before .before .before .loop .inv .3) (row-passes _ _ (sym (sum-found (c .before .before)) ∙ c .if1 .left)),
+  c .before .before .sum-of-row .ensures .1,
 )
 
 returns-2 : tie.Need-returns-2 Inv-loop μ-loop
@@ -94,10 +95,8 @@ check-spec =
     μ-loop
     sizes-of-requires
     rows-requires
-    sums-requires
     loop-holds
-    mul-if1
-    array-read-if1
+    sum-of-row-requires
     refused-requires
     returns
     add-k
