@@ -116,18 +116,17 @@ static size_t row_number(const struct model *m, size_t p, size_t z)
     return p * m->symbols + z;
 }
 
+/* Records ascend, so that those of a row follow each other. */
 static struct outcome check_row_sums(const struct model *m)
 {
-    uint32_t sums[MOST_ROWS];
-    for (size_t k = 0; k < m->rows; k++)
-        sums[k] = 0;
-    for (size_t i = 0; i < m->records; i++) {
-        const uint8_t *r = rule(m, i);
-        sums[row_number(m, r[0], r[1])] += weight(r);
-    }
-    for (size_t k = 0; k < m->rows; k++)
-        if (sums[k] != CERTAIN)
+    size_t i = 0;
+    for (size_t k = 0; k < m->rows; k++) {
+        uint64_t sum = 0;
+        for (; i < m->records && row_number(m, rule(m, i)[0], rule(m, i)[1]) == k; i++)
+            sum += weight(rule(m, i));
+        if (sum != CERTAIN)
             return refused(ROW_SUM_WRONG, k);
+    }
     return accepted();
 }
 
