@@ -14,10 +14,10 @@ use Rattle.outcome.proofs.Numbers.{number-some, number-small}
 use Rattle.wellformed.specs.Verdict.{modelVerdict}
 use Rattle.model.specs.W.{wFile}
 use Rattle.wellformed.proofs.Places.{model-place}
-use Rattle.certificate.specs.Verdict.{verdict}
+use Rattle.verdict.specs.Verdict.{verdict}
 use Rattle.certificate.specs.Edges.{refused, answerOf, wDelivery}
 use Rattle.certificate.proofs.Edges.{edges-hold}
-use Rattle.certificate.proofs.Places.{place-fits}
+use Rattle.verdict.proofs.Places.{place-fits}
 use Rattle.bounds.specs.Codes.{placeOf, codeOf, shortfallOf}
 
 -- ---- what the number says

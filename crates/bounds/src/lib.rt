@@ -6,7 +6,7 @@ use outcome::number;
 ghost use mathlib.Core.Path.{_≡_};
 ghost use Prim.Native.Nat.{_<_};
 ghost use Rattle.wellformed.specs.Verdict.{modelVerdict};
-ghost use Rattle.certificate.specs.Verdict.{verdict};
+ghost use Rattle.verdict.specs.Verdict.{verdict};
 ghost use Rattle.bounds.specs.Codes.{placeOf, codeOf, shortfallOf};
 
 // An outcome as one number: the reason's number × 65,536 + place, or 0 when accepted.

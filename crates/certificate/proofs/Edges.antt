@@ -23,17 +23,17 @@ use Rattle.delivery.specs.Records.{byteOf, valueAt}
 use Rattle.delivery.specs.Shapes.{meansFrom, recordsIn, longAs, lowersOrMeans, shapeOf}
 use Rattle.delivery.specs.Numbers.{uppersOf, lowersOf, meansOf}
 use Rattle.layout.specs.Layout as layout
-use Rattle.certificate.specs.Verdict as verdict
+use Rattle.verdict.specs.Verdict as verdict
 use Rattle.delivery.specs.Records.{isDue, inRange}
 use Rattle.layout.specs.Layout.{upperRecords, lowerRecords, meanRecords, layoutTests}
 use Rattle.walks.specs.Order.{eachEntry, eachRow}
 use Rattle.inequalities.specs.Inequalities.{deadTest, upperTest, belowTest, lowerTest, meanTest, deadTests, upperTests, belowTests, lowerTests, meanTests}
-use Rattle.certificate.specs.Verdict.{numberTests, shapedTests, deliveryTests}
+use Rattle.verdict.specs.Verdict.{numberTests, shapedTests, deliveryTests}
 use Rattle.certificate.specs.Margin.{marginOf, shownMargin}
 use Rattle.certificate.specs.Edges.{zToZ, AllHold, wDelivery, edges, answerTo, dueTo, badInputs, failTwice, placesAndEnds, greatest, lastUpper}
 use Rattle.model.proofs.Accepted.{is-model}
 use Rattle.wellformed.proofs.Accepted.{model-accepted}
-use Rattle.certificate.proofs.Accepted.{dead-exactly}
+use Rattle.verdict.proofs.Accepted.{dead-exactly}
 
 -- An entry of an accepted model is dead where its mark says so.
 dead : (b : List ℕ) (p z q : ℕ) → modelVerdict b ≡ Accepted → p < statesOf b → z < symbolsOf b → q < statesOf b

@@ -22,11 +22,11 @@ use Rattle.delivery.specs.declared.shape.Shaped.{Shaped}
 use Rattle.delivery.specs.declared.shape.Shaped.the-variants.{Of, Unknown}
 use Rattle.delivery.specs.Shapes.{hasLowers, hasMeans, shapeOf}
 use Rattle.delivery.specs.Numbers.{uppersOf, lowersOf, meansOf}
-use Rattle.certificate.specs.Verdict.{verdict}
-use Rattle.certificate.specs.Accepted.{RightFiles}
+use Rattle.verdict.specs.Verdict.{verdict}
+use Rattle.verdict.specs.Accepted.{RightFiles}
 use Rattle.certificate.specs.declared.answer.Margin.the-variants.{Shown, Absent}
 use Rattle.certificate.specs.Margin.{marginOf, shownBy, shownMargin}
-use Rattle.certificate.proofs.Accepted.{live-exactly, dead-exactly, delivery-accepted, shaped-as}
+use Rattle.verdict.proofs.Accepted.{live-exactly, dead-exactly, delivery-accepted, shaped-as}
 
 -- ---- what accepted files claim
 

@@ -1,6 +1,4 @@
--- Theorems about the verdict on a delivery and the place of a refusal, and its tests and its margin as the code works them out.
-pub mod Accepted
-pub mod Places
+-- Mission point 3 for files, the tables of edges, and the tests and the margin as the code works them out.
 pub mod Holds
 pub mod Edges
 pub mod Blocks

@@ -27,9 +27,9 @@ use Rattle.delivery.specs.Blocks.{Within}
 use Rattle.delivery.proofs.Shapes.{shape-long, uppers-fit, lowers-fit}
 use Rattle.delivery.proofs.Values.{rest-value}
 use Rattle.inequalities.specs.Inequalities.{deadTests}
-use Rattle.certificate.specs.Verdict.{numberTests}
+use Rattle.verdict.specs.Verdict.{numberTests}
 use Rattle.certificate.specs.Rest.{RestRead, meansBlock, restMeans, restTests}
-use Rattle.certificate.proofs.Accepted.{layout-right}
+use Rattle.verdict.proofs.Accepted.{layout-right}
 use Rattle.certificate.proofs.Blocks.{itself, dead-same, below-same, upper-same, lower-same, mean-same, ends-within, part-within}
 
 -- ---- the numbers of the rest

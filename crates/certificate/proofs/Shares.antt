@@ -20,9 +20,9 @@ use Rattle.model.specs.Accepted.{Sized}
 use Rattle.model.proofs.Accepted.{sized-model}
 use Rattle.ppda.proofs.Vectors.{f-same}
 use Rattle.shares.specs.Shares.{Strict, leastShare}
-use Rattle.certificate.specs.Verdict.{verdict}
-use Rattle.certificate.specs.Accepted.{LowersRight}
-use Rattle.certificate.proofs.Accepted.{live-exactly, delivery-accepted, shaped-as}
+use Rattle.verdict.specs.Verdict.{verdict}
+use Rattle.verdict.specs.Accepted.{LowersRight}
+use Rattle.verdict.proofs.Accepted.{live-exactly, delivery-accepted, shaped-as}
 
 leastTo-cong : (top : ℕ) (h k : ℕ → ℕ) (n : ℕ) → ((i : ℕ) → i < n → h i ≡ k i) → leastTo top h n ≡ leastTo top k n
 unfolding leastTo

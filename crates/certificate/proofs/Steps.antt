@@ -39,12 +39,12 @@ use Rattle.inequalities.specs.declared.sides.Side.the-variants.{Upper, StrictUp
 use Rattle.inequalities.specs.Walks.{deadAt, belowAt, sideAt, meanAt}
 use Rattle.shares.specs.Shares.{Strict, leastShare}
 use Rattle.certificate.specs.declared.answer.Margin.the-variants.{Shown, Absent}
-use Rattle.certificate.specs.Verdict.{numberTests, shapedTests, deliveryTests, verdict}
-use Rattle.certificate.specs.Accepted.{UppersRight}
+use Rattle.verdict.specs.Verdict.{numberTests, shapedTests, deliveryTests, verdict}
+use Rattle.verdict.specs.Accepted.{UppersRight}
 use Rattle.certificate.specs.Rest.{RestRead, meansBlock, restMeans, restTests, deadPart, upperPart, lowerPart}
 use Rattle.certificate.specs.Margin.{marginOf, shownMargin}
 use Rattle.certificate.specs.Shown.{shapeIn}
-use Rattle.certificate.proofs.Accepted.{delivery-accepted}
+use Rattle.verdict.proofs.Accepted.{delivery-accepted}
 use Rattle.certificate.proofs.Blocks.{itself, dead-same, below-same, lower-same, dead-by-entry, below-by-number, uppers-by-side, lowers-by-side, means-by-row, part-same}
 use Rattle.certificate.proofs.Rest.{uppers-within, uppers-read, rest-read, rest-same, numbers-by-rest}
 use Rattle.certificate.proofs.Shares.{least-share, strict-of}

@@ -14,7 +14,7 @@ use Rattle.model.specs.Made.{modelRecord}
 use Rattle.model.specs.W.{wFile}
 use Rattle.delivery.specs.Made.{deliveryRecord}
 use Rattle.certificate.specs.declared.answer.Margin.the-variants.{Shown}
-use Rattle.certificate.specs.Verdict.{verdict}
+use Rattle.verdict.specs.Verdict.{verdict}
 use Rattle.certificate.specs.Margin.{shownMargin}
 
 -- An outcome by document 01's numbers.

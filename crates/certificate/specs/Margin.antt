@@ -13,7 +13,7 @@ use Rattle.delivery.specs.Shapes.{hasLowers, shapeOf}
 use Rattle.delivery.specs.Numbers.{uppersOf}
 use Rattle.certificate.specs.declared.answer.Margin.{Margin}
 use Rattle.certificate.specs.declared.answer.Margin.the-variants.{Shown, Absent}
-use Rattle.certificate.specs.Verdict.{verdict}
+use Rattle.verdict.specs.Verdict.{verdict}
 
 -- The margin of the uppers of the delivery d for the model b.
 unfoldable pub marginOf : List ℕ → List ℕ → ℕ

@@ -23,7 +23,7 @@ use Rattle.delivery.specs.Blocks.{Within, Chances}
 use Rattle.rows.specs.Starts.{Indexed}
 use Rattle.live.specs.Exits.{exitMarks}
 use Rattle.inequalities.specs.Inequalities.{deadTests, upperTests, belowTests, lowerTests, meanTests}
-use Rattle.certificate.specs.Verdict.{verdict}
+use Rattle.verdict.specs.Verdict.{verdict}
 
 -- ---- what the functions ask
 

@@ -14,7 +14,7 @@ ghost use Rattle.outcome.specs.Tests.{first};
 ghost use Rattle.outcome.specs.declared.Outcome.the-variants.{Accepted};
 ghost use Rattle.wellformed.specs.Verdict.{modelVerdict};
 ghost use Rattle.delivery.specs.declared.shape.Shaped.the-variants.{Of};
-ghost use Rattle.certificate.specs.Verdict.{shapedTests, verdict};
+ghost use Rattle.verdict.specs.Verdict.{shapedTests, verdict};
 ghost use Rattle.certificate.specs.Rest.{SizedFile};
 
 // The tests 21 to 27 of a delivery whose shape is known.

@@ -14,7 +14,7 @@ pub mod margins; // margins.rt: the margin of an accepted delivery with lowers
 mod numbers; // numbers.rt: the tests 23 to 27, in their order
 
 ghost use mathlib.Core.Path.{_≡_};
-ghost use Rattle.certificate.specs.Verdict.{verdict};
+ghost use Rattle.verdict.specs.Verdict.{verdict};
 ghost use Rattle.certificate.specs.Margin.{shownMargin};
 ghost use Rattle.certificate.specs.Shown.{shapeIn};
 

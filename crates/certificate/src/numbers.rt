@@ -20,7 +20,7 @@ ghost use Rattle.outcome.specs.Tests.{first};
 ghost use Rattle.model.specs.Sizes.{Fits};
 ghost use Rattle.delivery.specs.Blocks.{Chances};
 ghost use Rattle.rows.specs.Starts.{Indexed};
-ghost use Rattle.certificate.specs.Verdict.{numberTests};
+ghost use Rattle.verdict.specs.Verdict.{numberTests};
 ghost use Rattle.certificate.specs.Rest.{LaidOut, LowersRead, RestOf, deadPart, upperPart, lowerPart, meanPart, restPart};
 
 // 23 in the lowers, which the rest of the file starts with where they stand.

@@ -21,9 +21,9 @@ use Rattle.delivery.specs.Numbers.{uppersOf}
 use Rattle.delivery.proofs.Shapes.{uppers-fit}
 use Rattle.rows.specs.Starts.{Indexed}
 use Rattle.shares.specs.Shares.{gapAt, Standing}
-use Rattle.certificate.specs.Accepted.{UppersRight}
-use Rattle.certificate.specs.Verdict.{verdict}
-use Rattle.certificate.proofs.Accepted.{delivery-accepted}
+use Rattle.verdict.specs.Accepted.{UppersRight}
+use Rattle.verdict.specs.Verdict.{verdict}
+use Rattle.verdict.proofs.Accepted.{delivery-accepted}
 use Rattle.certificate.proofs.Blocks.{part-same}
 use Rattle.certificate.proofs.Rest.{uppers-within}
 use Rattle.certificate.proofs.Steps.{sized-by-verdict}

@@ -11,7 +11,7 @@ ghost use mathlib.Core.Path.{_≡_};
 ghost use Rattle.outcome.specs.declared.Outcome.the-variants.{Accepted};
 ghost use Rattle.model.specs.Sizes.{sizesOf};
 ghost use Rattle.shares.specs.Shares.{Standing};
-ghost use Rattle.certificate.specs.Verdict.{verdict};
+ghost use Rattle.verdict.specs.Verdict.{verdict};
 ghost use Rattle.gaps.specs.Gaps.{Gaps};
 
 // At every entry of a block of uppers that stand, by its number.

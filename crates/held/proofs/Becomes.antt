@@ -20,9 +20,9 @@ use Rattle.delivery.specs.declared.shape.Shaped.the-variants.{Of}
 use Rattle.delivery.specs.Shapes.{hasLowers, hasMeans, shapeOf}
 use Rattle.delivery.specs.Numbers.{lowersOf, meansOf}
 use Rattle.live.specs.Shown.{liveMark}
-use Rattle.certificate.specs.Verdict.{verdict}
+use Rattle.verdict.specs.Verdict.{verdict}
 use Rattle.certificate.specs.Margin.{marginOf}
-use Rattle.certificate.proofs.Accepted.{delivery-accepted}
+use Rattle.verdict.proofs.Accepted.{delivery-accepted}
 use Rattle.held.specs.declared.HeldModel.{HeldModel}
 use Rattle.held.specs.declared.Numbers.{Numbers}
 use Rattle.held.specs.Held.{filled, listed, listedRows, ifStanding, modelHeld, numbersHeld, holdsModel, shapeAs}

@@ -21,8 +21,8 @@ use Rattle.layout.specs.Layout.{upperRecords, lowerRecords, meanRecords, layout
 use Rattle.walks.specs.Order.{eachEntry, eachRow}
 use Rattle.inequalities.specs.Inequalities.{deadTest, upperTest, belowTest, lowerTest, meanTest, deadTests, upperTests, belowTests, lowerTests, meanTests}
 use Rattle.live.specs.Shown.{liveMark}
-use Rattle.certificate.specs.Verdict as verdict
-use Rattle.certificate.specs.Verdict.{numberTests, shapedTests, deliveryTests}
+use Rattle.verdict.specs.Verdict as verdict
+use Rattle.verdict.specs.Verdict.{numberTests, shapedTests, deliveryTests}
 use Rattle.certificate.specs.Margin.{marginOf}
 use Rattle.history.specs.Plain.{Event, lastModel, lastDelivery, sameUppers, plainReply, plainReplies}
 use Rattle.history.specs.Edges.{callOf, replyDue, AllReplied, Replied, emptyExchanges, modelExchanges, upperExchanges, lowerExchanges, meanExchanges, allExchanges}

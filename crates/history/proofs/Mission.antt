@@ -26,7 +26,7 @@ use Rattle.delivery.specs.Shapes.{hasLowers, hasMeans, shapeOf}
 use Rattle.delivery.specs.Numbers.{uppersOf, lowersOf, meansOf}
 use Rattle.live.specs.Shown.{liveMark}
 use Rattle.live.proofs.Shown.{live-marks-by-runs}
-use Rattle.certificate.specs.Verdict.{verdict}
+use Rattle.verdict.specs.Verdict.{verdict}
 use Rattle.certificate.specs.Margin.{marginOf}
 use Rattle.certificate.proofs.Holds.{upper-of-files, lower-of-shape, lower-as-shown-of-shape, mean-of-files}
 use Rattle.calls.specs.Calls.{Call, upper, lower, meanSteps, margin, live, Reply, value, refused, refusal}

@@ -25,10 +25,10 @@ use Rattle.delivery.specs.Shapes.{hasLowers, hasMeans, shapeOf}
 use Rattle.delivery.specs.Numbers.{uppersOf, lowersOf, meansOf}
 use Rattle.model.specs.Accepted.{Sized}
 use Rattle.live.specs.Shown.{liveMark}
-use Rattle.certificate.specs.Accepted.{RightFiles}
+use Rattle.verdict.specs.Accepted.{RightFiles}
 use Rattle.certificate.specs.Margin.{marginOf}
-use Rattle.certificate.specs.Verdict.{verdict}
-use Rattle.certificate.proofs.Accepted.{delivery-accepted}
+use Rattle.verdict.specs.Verdict.{verdict}
+use Rattle.verdict.proofs.Accepted.{delivery-accepted}
 use Rattle.certificate.proofs.Rest.{at-numbers}
 use Rattle.calls.specs.declared.Mark.the-variants.{Known, New}
 use Rattle.held.specs.Held.{listed, listedRows, noModel, modelHeld, numbersHeld, holdsModel}

@@ -11,8 +11,8 @@ use Rattle.outcome.specs.declared.Outcome.{Outcome}
 use Rattle.outcome.specs.declared.Outcome.the-variants.{Accepted, Refused}
 use Rattle.wellformed.specs.Verdict.{modelVerdict}
 use Rattle.wellformed.proofs.Accepted.{model-accepted}
-use Rattle.certificate.specs.Verdict.{verdict}
-use Rattle.certificate.proofs.Accepted.{delivery-accepted}
+use Rattle.verdict.specs.Verdict.{verdict}
+use Rattle.verdict.proofs.Accepted.{delivery-accepted}
 use Rattle.calls.specs.Calls.{Call, fileModel, fileDelivery, accepted, taken}
 use Rattle.history.specs.Plain.{lastModel, lastDelivery, pairOf, ofModel, ifNone, byVerdict, markOf, plainReply}
 use Rattle.history.specs.Run.{afterCall, replyOf, registerAfter, history, registerOf}

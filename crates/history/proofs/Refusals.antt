@@ -9,7 +9,7 @@ use Rattle.outcome.specs.declared.Reason.the-variants.{NoModel, ModelHeld}
 use Rattle.outcome.specs.declared.Outcome.{Outcome}
 use Rattle.outcome.specs.declared.Outcome.the-variants.{Accepted, Refused}
 use Rattle.wellformed.specs.Verdict.{modelVerdict}
-use Rattle.certificate.specs.Verdict.{verdict}
+use Rattle.verdict.specs.Verdict.{verdict}
 use Rattle.register.specs.declared.Register.{Register}
 use Rattle.calls.specs.declared.Mark.{Mark}
 use Rattle.calls.specs.declared.Mark.the-variants.{Known, New, Absent}

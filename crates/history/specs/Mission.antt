@@ -12,7 +12,7 @@ use Rattle.ppda.specs.Live.{isLive, Live}
 use Rattle.ppda.specs.Margin.{whole, kept}
 use Rattle.model.specs.Rules.{rulesOf}
 use Rattle.model.specs.Accepted.{ModelFile}
-use Rattle.certificate.specs.Accepted.{RightFiles}
+use Rattle.verdict.specs.Accepted.{RightFiles}
 use Rattle.register.specs.declared.Register.{Register}
 use Rattle.register.specs.Filing.{cleared}
 use Rattle.calls.specs.Calls.{Call, fileModel, fileDelivery, upper, lower, meanSteps, margin, live, accepted, value, refused, taken}

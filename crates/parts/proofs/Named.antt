@@ -14,8 +14,8 @@ use Rattle.delivery.specs.Format as delivery
 use Rattle.model.specs.Records.{recordsOf}
 use Rattle.wellformed.specs.Verdict.{modelVerdict}
 use Rattle.wellformed.proofs.Places.{model-record}
-use Rattle.certificate.specs.Verdict.{verdict}
-use Rattle.certificate.proofs.Places.{rule-record, bound-record}
+use Rattle.verdict.specs.Verdict.{verdict}
+use Rattle.verdict.proofs.Places.{rule-record, bound-record}
 use Rattle.parts.specs.Parts.{bytesFrom, isWhole, recordPart, namesRule, namesBound, namesModel, inModel, inDelivery, offendingPart}
 
 -- The part for a number and a whole record.

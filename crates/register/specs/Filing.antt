@@ -14,7 +14,7 @@ use Rattle.delivery.specs.declared.shape.Shape.{Shape}
 use Rattle.delivery.specs.Shapes.{shapeOf}
 use Rattle.walks.specs.Sums.{allTo}
 use Rattle.walks.specs.Order.{entriesIn}
-use Rattle.certificate.specs.Verdict.{verdict}
+use Rattle.verdict.specs.Verdict.{verdict}
 use Rattle.held.specs.declared.HeldDelivery.the-variants as Held
 use Rattle.held.specs.declared.Numbers.{Numbers}
 use Rattle.calls.specs.declared.Mark.{Mark}

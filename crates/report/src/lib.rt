@@ -28,7 +28,7 @@ mod steps; // steps.rt: the lines of the rows' mean steps
 
 ghost use mathlib.Core.Path.{_≡_};
 ghost use Rattle.outcome.specs.declared.Outcome.the-variants.{Accepted};
-ghost use Rattle.certificate.specs.Verdict.{verdict};
+ghost use Rattle.verdict.specs.Verdict.{verdict};
 ghost use Rattle.history.specs.Run.{replyOf};
 ghost use Rattle.model.specs.Sizes.{Fits};
 ghost use Rattle.report.specs.Printed.{acceptedLines, printed};

@@ -2,8 +2,8 @@
 use denote.Ref.{now}
 use mathlib.Core.Path.{_≡_, sym, ap, _∙_}
 use borrow.Author.Needs.{needs}
-use Rattle.certificate.specs.Verdict.{verdict}
-use Rattle.certificate.proofs.Places.{place-fits}
+use Rattle.verdict.specs.Verdict.{verdict}
+use Rattle.verdict.proofs.Places.{place-fits}
 use Rattle.certificate.proofs.Steps.{model-decides}
 use Rattle.bounds.specs.Codes.{codeOf}
 use Rattle.bounds.proofs.Codes.{place-below}

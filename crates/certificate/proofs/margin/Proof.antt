@@ -5,7 +5,7 @@ use borrow.Author.Needs.{needs}
 use Rattle.outcome.specs.declared.Outcome.the-variants.{Accepted}
 use Rattle.model.specs.Accepted.{Sized}
 use Rattle.model.proofs.Accepted.{sized-fits}
-use Rattle.certificate.specs.Verdict.{verdict}
+use Rattle.verdict.specs.Verdict.{verdict}
 use Rattle.certificate.proofs.Steps.{sized-by-verdict, none-if-refused, none-if-unknown, none-without-lowers, shown-with-lowers}
 use Rattle.certificate.proofs.margin.Statement.{statement}
 use Rattle.certificate.proofs.margin.Tie as tie

@@ -2,7 +2,7 @@
 use mathlib.Core.Path.{sym, _∙_}
 use borrow.Author.Needs.{needs}
 use Rattle.outcome.proofs.Tests.{first-refused, first-rest}
-use Rattle.certificate.specs.Verdict.{shapedTests}
+use Rattle.verdict.specs.Verdict.{shapedTests}
 use Rattle.model.proofs.Accepted.{sized-fits}
 use Rattle.certificate.proofs.beside.check_shaped.Statement.{statement}
 use Rattle.certificate.proofs.beside.check_shaped.Tie as tie

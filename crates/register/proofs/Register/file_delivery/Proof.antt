@@ -11,7 +11,7 @@ use borrow.Author.Needs.{needs}
 use Rattle.outcome.specs.declared.Outcome.the-variants.{Accepted}
 use Rattle.outcome.proofs.Tests.{not-refused}
 use Rattle.model.specs.Accepted.{Sized}
-use Rattle.certificate.specs.Verdict.{verdict}
+use Rattle.verdict.specs.Verdict.{verdict}
 use Rattle.model.specs.Format.{mostBytes}
 use Rattle.model.proofs.Accepted.{sized-fits}
 use Rattle.certificate.proofs.Steps.{sized-by-verdict}

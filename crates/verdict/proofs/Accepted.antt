@@ -42,8 +42,8 @@ use Rattle.layout.specs.Layout.{onlyIf, recordTests, upperRecords, lowerRecords
 use Rattle.delivery.proofs.Due.{due-exactly, range-exactly, AtRecords}
 use Rattle.layout.proofs.Says.{Says, says-append, says-only, says-entries, says-rows, says-one, says-layout}
 use Rattle.inequalities.specs.Inequalities.{deadTest, upperTest, belowTest, lowerTest, meanTest, deadTests, upperTests, belowTests, lowerTests, meanTests}
-use Rattle.certificate.specs.Verdict.{numberTests, shapedTests, deliveryTests, verdict}
-use Rattle.certificate.specs.Accepted.{RecordDue, UppersRight, LowersRight, MeansRight, DeliveryFile, RightFiles}
+use Rattle.verdict.specs.Verdict.{numberTests, shapedTests, deliveryTests, verdict}
+use Rattle.verdict.specs.Accepted.{RecordDue, UppersRight, LowersRight, MeansRight, DeliveryFile, RightFiles}
 
 -- ---- each test
 

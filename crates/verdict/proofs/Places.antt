@@ -32,7 +32,7 @@ use Rattle.walks.specs.Order.{entriesIn, entryAt, rowAt, eachEntry, eachRow}
 use Rattle.layout.specs.Layout.{onlyIf, recordTests, upperRecords, lowerRecords, meanRecords, layoutTests}
 use Rattle.delivery.proofs.Shapes.{shape-long, uppers-fit, lowers-fit, means-fit}
 use Rattle.inequalities.specs.Inequalities.{deadTest, upperTest, belowTest, lowerTest, meanTest, deadTests, upperTests, belowTests, lowerTests, meanTests}
-use Rattle.certificate.specs.Verdict.{numberTests, shapedTests, deliveryTests, verdict}
+use Rattle.verdict.specs.Verdict.{numberTests, shapedTests, deliveryTests, verdict}
 
 -- ---- the tests of a delivery that has a shape
 
