@@ -1,4 +1,4 @@
-// What the calls on a register answer, and in which order its own reasons come.
+// What the calls on a register answer, and in which order the reasons of a question come.
 
 use outcome::Reason;
 ghost use mathlib.Core.Path.{_≡_};

@@ -4,7 +4,7 @@ use mathlib.Core.Bool.{true}
 use mathlib.Core.List.{List}
 use mathlib.Core.Logic.{_↔_}
 use mathlib.Core.Path.{_≡_}
-use Rattle.outcome.proofs.Exactly.{le-exactly, eq-exactly, both}
+use Rattle.walks.proofs.Exactly.{le-exactly, eq-exactly, both}
 use Rattle.walks.specs.Order.{entriesIn, entryAt, rowAt}
 use Rattle.delivery.specs.declared.shape.Block.{Block}
 use Rattle.delivery.specs.declared.shape.Block.the-variants.{Uppers, Lowers, Means}

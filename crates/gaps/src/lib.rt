@@ -6,7 +6,7 @@ use model::sizes::Sizes;
 use model::sizes::sizes_of;
 use rows::STARTS;
 use rows::find_starts;
-use shares::gaps::gap;
+use shares::gap::gap;
 ghost use mathlib.Core.Path.{_≡_};
 ghost use Rattle.outcome.specs.declared.Outcome.the-variants.{Accepted};
 ghost use Rattle.model.specs.Sizes.{sizesOf};

@@ -19,7 +19,7 @@ use Rattle.delivery.specs.declared.shape.Shape.{Shape}
 use Rattle.delivery.specs.declared.shape.Shaped.the-variants.{Of}
 use Rattle.delivery.specs.Shapes.{hasLowers, hasMeans, shapeOf}
 use Rattle.delivery.specs.Numbers.{lowersOf, meansOf}
-use Rattle.live.specs.Shown.{liveMark}
+use Rattle.verdict.specs.Marks.{liveMark}
 use Rattle.verdict.specs.Verdict.{verdict}
 use Rattle.certificate.specs.Margin.{marginOf}
 use Rattle.verdict.proofs.Accepted.{delivery-accepted}

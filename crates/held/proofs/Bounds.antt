@@ -5,7 +5,7 @@ use mathlib.Core.List.{List}
 use mathlib.Core.Logic.{_↔_}
 use mathlib.Core.Path.{_≡_}
 use lib.Dec.{ltb}
-use Rattle.outcome.proofs.Exactly.{lt-exactly, both}
+use Rattle.walks.proofs.Exactly.{lt-exactly, both}
 use Rattle.ppda.specs.Equations.{entries, rows}
 use Rattle.model.specs.declared.sizes.Sizes.{Sizes}
 use Rattle.model.specs.Sizes.{Narrow}

@@ -27,7 +27,7 @@ use Rattle.delivery.specs.Records.{valueAt}
 use Rattle.delivery.specs.Numbers.{uppersOf, rowsOfBlock}
 use Rattle.rows.proofs.Ranges.{set-more}
 use Rattle.live.specs.Exits.{bitOf, exitMarks, ExitsOf}
-use Rattle.live.specs.Shown.{liveMark}
+use Rattle.verdict.specs.Marks.{liveMark}
 use Rattle.held.specs.Held.{padded, listed, listedRows, filled}
 use Rattle.held.specs.Lists.{Values, Marks}
 

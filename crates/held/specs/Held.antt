@@ -15,7 +15,7 @@ use Rattle.delivery.specs.declared.shape.Shaped.the-variants as Shaped
 use Rattle.delivery.specs.Shapes.{hasLowers, hasMeans}
 use Rattle.walks.specs.Order.{entriesIn, rowsIn, byRow, byEntry}
 use Rattle.delivery.specs.Numbers.{uppersOf, lowersOf, meansOf}
-use Rattle.live.specs.Shown.{liveMark}
+use Rattle.verdict.specs.Marks.{liveMark}
 use Rattle.certificate.specs.Margin.{marginOf}
 use Rattle.held.specs.declared.HeldModel.{HeldModel}
 use Rattle.held.specs.declared.HeldDelivery.{HeldDelivery}

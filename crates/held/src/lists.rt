@@ -20,7 +20,7 @@ ghost use Rattle.model.specs.Records.{statesOf, symbolsOf};
 ghost use Rattle.model.specs.Sizes.{Fits};
 ghost use Rattle.delivery.specs.Blocks.{HasRecords};
 ghost use Rattle.live.specs.Exits.{exitMarks};
-ghost use Rattle.live.specs.Shown.{liveMark};
+ghost use Rattle.verdict.specs.Marks.{liveMark};
 ghost use Rattle.held.specs.Lists.{Values, Marks};
 
 // A listed number as a wider one.

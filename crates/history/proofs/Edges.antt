@@ -20,7 +20,7 @@ use Rattle.delivery.specs.Records.{isDue, inRange}
 use Rattle.layout.specs.Layout.{upperRecords, lowerRecords, meanRecords, layoutTests}
 use Rattle.walks.specs.Order.{eachEntry, eachRow}
 use Rattle.inequalities.specs.Inequalities.{deadTest, upperTest, belowTest, lowerTest, meanTest, deadTests, upperTests, belowTests, lowerTests, meanTests}
-use Rattle.live.specs.Shown.{liveMark}
+use Rattle.verdict.specs.Marks.{liveMark}
 use Rattle.verdict.specs.Verdict as verdict
 use Rattle.verdict.specs.Verdict.{numberTests, shapedTests, deliveryTests}
 use Rattle.certificate.specs.Margin.{marginOf}

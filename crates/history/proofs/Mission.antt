@@ -11,7 +11,7 @@ use lib.Dec.{ltb}
 use lib.IntN.{ℤ}
 use borrow.Author.Tests.{lt-ltb}
 use Rattle.outcome.specs.declared.Outcome.the-variants.{Accepted}
-use Rattle.outcome.proofs.Exactly.{lt-exactly, both}
+use Rattle.walks.proofs.Exactly.{lt-exactly, both}
 use Rattle.ppda.specs.Units.{weightUnit, chanceUnit, stepUnit}
 use Rattle.ppda.specs.Bounds.{stepsOf}
 use Rattle.ppda.specs.Chances.{chance, mean}
@@ -24,8 +24,8 @@ use Rattle.delivery.specs.declared.shape.Shaped.{Shaped}
 use Rattle.delivery.specs.declared.shape.Shaped.the-variants.{Of, Unknown}
 use Rattle.delivery.specs.Shapes.{hasLowers, hasMeans, shapeOf}
 use Rattle.delivery.specs.Numbers.{uppersOf, lowersOf, meansOf}
-use Rattle.live.specs.Shown.{liveMark}
-use Rattle.live.proofs.Shown.{live-marks-by-runs}
+use Rattle.verdict.specs.Marks.{liveMark}
+use Rattle.verdict.proofs.Marks.{live-marks-by-runs}
 use Rattle.verdict.specs.Verdict.{verdict}
 use Rattle.certificate.specs.Margin.{marginOf}
 use Rattle.certificate.proofs.Holds.{upper-of-files, lower-of-shape, lower-as-shown-of-shape, mean-of-files}

@@ -10,7 +10,7 @@ use lib.Dec.{ltb}
 use lib.ListN.{length, getD}
 use Rattle.outcome.specs.declared.Outcome.{Outcome}
 use Rattle.outcome.specs.declared.Outcome.the-variants.{Accepted, Refused}
-use Rattle.outcome.proofs.Exactly.{lt-exactly, le-exactly, eq-exactly, both}
+use Rattle.walks.proofs.Exactly.{lt-exactly, le-exactly, eq-exactly, both}
 use Rattle.ppda.specs.Equations.{Vector, RowVector, entries, rows, SameRows, Same}
 use Rattle.walks.specs.Order.{entriesIn}
 use Rattle.walks.proofs.Sums.{all-exactly}
@@ -24,7 +24,7 @@ use Rattle.delivery.specs.declared.shape.Shaped.the-variants.{Of}
 use Rattle.delivery.specs.Shapes.{hasLowers, hasMeans, shapeOf}
 use Rattle.delivery.specs.Numbers.{uppersOf, lowersOf, meansOf}
 use Rattle.model.specs.Accepted.{Sized}
-use Rattle.live.specs.Shown.{liveMark}
+use Rattle.verdict.specs.Marks.{liveMark}
 use Rattle.verdict.specs.Accepted.{RightFiles}
 use Rattle.certificate.specs.Margin.{marginOf}
 use Rattle.verdict.specs.Verdict.{verdict}

@@ -18,7 +18,7 @@ use Rattle.delivery.specs.declared.shape.Shaped.the-variants.{Of, Unknown}
 use Rattle.delivery.specs.Records.{kindAt, stateAt, symbolAt, exitAt, valueAt}
 use Rattle.delivery.specs.Shapes.{hasLowers, hasMeans, shapeOf}
 use Rattle.delivery.specs.Numbers.{uppersOf, lowersOf, meansOf}
-use Rattle.live.specs.Shown.{liveMark}
+use Rattle.verdict.specs.Marks.{liveMark}
 use Rattle.verdict.specs.Verdict.{verdict}
 use Rattle.certificate.specs.Margin.{marginOf}
 use Rattle.calls.specs.Calls.{Call, clear, fileModel, fileDelivery, upper, lower, meanSteps, margin, live, Reply, cleared, accepted, known, new, value, refused, refusal, taken}

@@ -7,7 +7,7 @@ use mathlib.Core.Logic.{_↔_, Iff·trans}
 use mathlib.Core.Path.{_≡_, refl, sym}
 use borrow.Author.Tests.{not-false}
 use Rattle.outcome.specs.Tests.{Test, Passed}
-use Rattle.outcome.proofs.Exactly.{not-exactly}
+use Rattle.walks.proofs.Exactly.{not-exactly}
 use Rattle.outcome.proofs.Tests.{passed-one, passed-append, passed-each}
 use Rattle.delivery.specs.declared.shape.Block.{Block}
 use Rattle.delivery.specs.declared.shape.Block.the-variants.{Uppers, Lowers, Means}

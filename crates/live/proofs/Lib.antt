@@ -1,4 +1,3 @@
--- The laws of exits as bits, of rounds of marks, and of the marks that are shown.
+-- The laws of exits as bits, and of rounds of marks.
 pub mod Bits
 pub mod Marks
-pub mod Shown

@@ -1,4 +1,3 @@
--- The live marks that are shown (`Shown`). The rest serves the contracts of the code alone: marks as bits, and rounds of them.
+-- Live marks as the code finds them, a row's exits as the bits of a byte, and rounds of them: they serve the contracts of the code alone.
 pub mod Exits
 pub mod Rounds
-pub mod Shown

@@ -53,10 +53,10 @@ next-row b i l (inr (e, inr (f, h))) = rw (e, f) (le-refl _)
 
 pub rows-ascend : (b : List ℕ) → Ascending b → (i j : ℕ) → i ≤ j → j < recordsOf b
     → rowOf b (symbolsOf b) i ≤ rowOf b (symbolsOf b) j
-rows-ascend b m i zero h l = let e : i ≡ 0 = omega arith in rw e (le-refl _)
-rows-ascend b m i (suc j) h l = go (eq-or-lt-of-le h) (λ c. rows-ascend b m i j c (omega arith))
+rows-ascend b ascending i zero h l = let e : i ≡ 0 = omega arith in rw e (le-refl _)
+rows-ascend b ascending i (suc j) h l = go (eq-or-lt-of-le h) (λ c. rows-ascend b ascending i j c (omega arith))
   where
     go : (i ≡ suc j) ⊎ (i < suc j) → (i ≤ j → rowOf b (symbolsOf b) i ≤ rowOf b (symbolsOf b) j)
         → rowOf b (symbolsOf b) i ≤ rowOf b (symbolsOf b) (suc j)
     go (inl e) rest = rw e (le-refl (rowOf b (symbolsOf b) (suc j)))
-    go (inr c) rest = le-trans (rest (le-of-suc-le-suc c)) (next-row b j (omega arith) (m j l))
+    go (inr c) rest = le-trans (rest (le-of-suc-le-suc c)) (next-row b j (omega arith) (ascending j l))

@@ -33,7 +33,7 @@ rowOf b g i = rowAt g (state b i) (symbol b i)
 unfoldable pub rowSum : List ℕ → ℕ → ℕ → ℕ
 rowSum b g k = sumTo (λ i. bit (eqb (rowOf b g i) k) * weight b i) (recordsOf b)
 
--- Row number k starts at record a: every record before it is of an earlier row, and every other of row k or later.
+-- For the contracts of the code: row number k starts at record a: every record before it is of an earlier row, and every other of row k or later.
 pub record StartsAt (b : List ℕ) (g k a : ℕ) : Type 0 where
   pub within : a ≤ recordsOf b
   pub before : (i : ℕ) → i < a → rowOf b g i < k

@@ -14,7 +14,7 @@ use Rattle.outcome.specs.declared.Reason.{Reason}
 use Rattle.outcome.specs.declared.Outcome.the-variants.{Accepted, Refused}
 use Rattle.outcome.specs.Tests.{Test, plain, refusal, first, Passed, FirstFailure}
 use Rattle.walks.specs.Lists.{each}
-use Rattle.outcome.proofs.Exactly.{not-lt-exactly, not-exactly, and-fails, or-fails}
+use Rattle.walks.proofs.Exactly.{not-lt-exactly, not-exactly, and-fails, or-fails}
 use Rattle.outcome.proofs.Tests.{accepted-exactly, refused-exactly, first-failure, first-stands, passed-append}
 use Rattle.walks.specs.Sums.{In}
 use Rattle.ppda.specs.Rules.{Rule, IsModel}

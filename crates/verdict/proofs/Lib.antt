@@ -1,3 +1,4 @@
--- Theorems about the verdict on a delivery, and the place of a refusal.
+-- Theorems about the verdict on a delivery, the place of a refusal, and the live marks that are shown.
 pub mod Accepted
 pub mod Places
+pub mod Marks

@@ -14,7 +14,7 @@ use Rattle.outcome.specs.declared.Reason.{Reason}
 use Rattle.outcome.specs.declared.Outcome.the-variants.{Accepted, Refused}
 use Rattle.outcome.specs.Tests.{Test, refusal, first, Passed, FirstFailure}
 use Rattle.walks.specs.Lists.{each}
-use Rattle.outcome.proofs.Exactly.{lt-exactly, le-exactly, eq-exactly, both, or-exactly, not-exactly}
+use Rattle.walks.proofs.Exactly.{lt-exactly, le-exactly, eq-exactly, both, or-exactly, not-exactly}
 use Rattle.outcome.proofs.Tests.{accepted-exactly, refused-exactly, first-failure, passed-append, passed-each}
 use Rattle.ppda.specs.Units.{weightUnit}
 use Rattle.walks.specs.Order.{rowsIn, rowAt}

@@ -41,7 +41,8 @@ adds-most b g k j h = go (eqb (rowOf b g j) k)
     go true = omega arith
     go false = omega arith
 
--- n is the sum of the weights of row k before record `at`, and every record before it is of that row or an earlier one. The row starts at record i.
+-- n is the sum of the weights of row k before record `at`, and every record before it is of that row or an earlier one;
+-- record i, where the row starts, is not after it.
 pub record SumBefore (b : List ℕ) (g k i at n : ℕ) : Type 0 where
   pub from : i ≤ at
   pub within : at ≤ recordsOf b
@@ -74,8 +75,8 @@ module _ {b : List ℕ} {g k i at n : ℕ} (sums : SumBefore b g k i at n) where
       }
 
   -- No sum exceeds 65,536 a record.
-  pub sum-most : RecordsRight b → n ≤ at * weightUnit
-  sum-most right =
+  pub sum-within : RecordsRight b → n ≤ at * weightUnit
+  sum-within right =
       rw (sums .sum) (sumTo-le (adds b g k) weightUnit at (λ j l. adds-most b g k j (right .right j (omega (arith, sums .within)) .weight-most)))
 
   -- Where every record from here on is of a later row, the row has ended.

@@ -19,13 +19,13 @@ ghost use Rattle.model.specs.Sizes.{sizesOf};
 ghost use Rattle.wellformed.specs.Verdict.{rowsTests};
 
 // The sum of a row's weights, and the record after its last.
-struct RowSum {
+struct SummedRow {
     sum: u64,
     next: usize,
 }
 
 // The sum of row k, which starts at record i.
-fn sum_of_row(model: &[u8], n: Sizes, k: usize, i: usize) -> RowSum
+fn sum_of_row(model: &[u8], n: Sizes, k: usize, i: usize) -> SummedRow
     requires file { ⌜ RecordsRight (now model) × Ascending (now model) × (n ≡ sizesOf (now model)) ⌝ }
     requires start { ⌜ StartsAt (now model) (n .symbols) k i ⌝ }
     ensures { λ r. ⌜
@@ -38,12 +38,12 @@ fn sum_of_row(model: &[u8], n: Sizes, k: usize, i: usize) -> RowSum
     let mut at = i;
     while at < end {
         if n.row(state(model, at), symbol(model, at)) != k {
-            return RowSum { sum, next: at };
+            return SummedRow { sum, next: at };
         }
         sum += weight(model, at);
         at += 1;
     }
-    RowSum { sum, next: at }
+    SummedRow { sum, next: at }
 }
 
 // The tests of the rows, in their order.

@@ -68,7 +68,7 @@ returns c =
     let e : c .before .loop .i ≡ recordsOf (now (c .before .before .before .before .args .model)) = omega arith in
     let s = states-named _ (inv .2) e in
     let g = symbols-named _ (inv .3) e in
-    (cc, omega arith, omega arith)
+    (rw (s, g), omega arith, omega arith)
 
 pub sizes-of-spec : {M : Type 1} → statement M
 sizes-of-spec =

@@ -12,7 +12,7 @@ no-numbers-requires c κs = search needs
 
 returns : tie.Need-returns
 unfolding cleared
-returns c = cc
+returns c = rw (c .no-numbers .ensures, c .before .no-model .ensures)
 
 pub empty-spec : {M : Type 1} → statement M
 empty-spec = tie.close (tie.spec no-model-requires no-numbers-requires returns)

@@ -6,7 +6,7 @@ use borrow.Author.Needs.{needs}
 use Rattle.model.specs.declared.sizes.Sizes.{Sizes}
 use Rattle.model.specs.Records.{recordsOf}
 use Rattle.model.specs.Rules.{rowOf}
-use Rattle.wellformed.proofs.Sums.{record-in-row, SumBefore, sum-none, sum-more, sum-most, sum-stopped, sum-ended}
+use Rattle.wellformed.proofs.Sums.{record-in-row, SumBefore, sum-none, sum-more, sum-within, sum-stopped, sum-ended}
 use Rattle.wellformed.proofs.row_sums.sum_of_row.Statement.{statement}
 use Rattle.wellformed.proofs.row_sums.sum_of_row.Tie as tie
 
@@ -56,7 +56,7 @@ add-sum : tie.Need-add-sum Inv-loop μ-loop
 add-sum c =
     let turn = c .before .before .before .before .before .before in
     let right = turn .before .before .before .pre .0 .0 in
-    omega (arith, sum-most (turn .loop .inv .2) right, right .most)
+    omega (arith, sum-within (turn .loop .inv .2) right, right .most)
 
 add-at : tie.Need-add-at Inv-loop μ-loop
 add-at c = omega arith

@@ -12,7 +12,7 @@ use Rattle.model.specs.Rules.{rulesOf}
 use Rattle.wellformed.specs.Verdict.{modelVerdict}
 use Rattle.model.proofs.Accepted.{is-model}
 use Rattle.wellformed.proofs.Accepted.{model-accepted}
-use Rattle.live.specs.Shown.{liveMark}
+use Rattle.verdict.specs.Marks.{liveMark}
 
 -- The marks shown of an accepted model are those of document 01: live where some run empties the stack.
 pub live-marks-by-runs : (b : List ℕ) → modelVerdict b ≡ Accepted → (p z q : ℕ) → p < statesOf b → z < symbolsOf b → q < statesOf b

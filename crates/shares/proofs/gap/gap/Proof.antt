@@ -5,8 +5,8 @@ use Rattle.ppda.specs.Units.{mostChance}
 use Rattle.model.proofs.Records.{fits-narrow}
 use Rattle.model.proofs.Accepted.{sized-fits}
 use Rattle.shares.proofs.Shares.{gap-most, gap-found}
-use Rattle.shares.proofs.gaps.gap.Statement.{statement}
-use Rattle.shares.proofs.gaps.gap.Tie as tie
+use Rattle.shares.proofs.gap.gap.Statement.{statement}
+use Rattle.shares.proofs.gap.gap.Tie as tie
 
 f-requires : tie.Need-f-requires
 f-requires c κs = let pre = c .before .before .pre in ((pre .0 .indexed, pre .0 .chances), (pre .1, pre .2))
