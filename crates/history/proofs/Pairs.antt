@@ -35,10 +35,12 @@ use Rattle.held.specs.Held.{listed, listedRows, noModel, modelHeld, numbersHeld
 use Rattle.held.specs.Places.{hasRow, hasEntry, rowValue, entryValue}
 use Rattle.held.proofs.Listed.{listed-at, rows-at, filled-back}
 use Rattle.register.specs.Filing as Filing
-use Rattle.register.specs.Filing.{fileOf, withModel, modelBy, deliveryBy, received, shapeFor, sameTo, markBy}
+use Rattle.filing.specs.Outcomes.{modelOutcome, fileOf, deliveryOutcome}
+use Rattle.filing.specs.Known.{sameTo, markBy}
+use Rattle.filing.proofs.Known.{same-found}
+use Rattle.register.specs.Filing.{withModel, modelBy, deliveryBy, received, shapeFor}
 use Rattle.calls.specs.Answers.{answered}
 use Rattle.register.specs.Questions.{upperIn, lowerIn, meanIn, marginIn, liveIn}
-use Rattle.register.proofs.Steps.{same-found}
 use Rattle.calls.specs.Calls.{Call, clear, fileModel, fileDelivery, upper, lower, meanSteps, margin, live, Reply, accepted, known, new, value, refusal, taken}
 use Rattle.history.specs.Plain.{Pair, ofModel, ofDelivery, ifNone, atRow, atEntry, ofBlock, byVerdict, sameRecord, sameUppers, markOf, modelAfter, deliveryAfter, plainReply}
 use Rattle.calls.specs.Answers.{modelReply, markReply, deliveryReply, answerReply}
@@ -121,14 +123,14 @@ module _ (b : List ℕ) (y : Option (List ℕ)) (right : Right (some b) y) where
   unfolding modelHeld
   model-held = rw (model-of-pair b y) (held-length b (model-right b y right))
 
-  file-held : fileOf (holding (some b) y) ≡ b
+  file-held : fileOf (holding (some b) y .model) ≡ b
   unfolding fileOf modelHeld
   file-held =
       let records = size b (model-right b y right) .file .records in
       rw (model-of-pair b y) (filled-back mostBytes b (omega (arith, records .most, records .whole)))
 
   delivery-by-verdict : (d : List ℕ) → Filing.fileDelivery (holding (some b) y) d ≡ deliveryBy (verdict b d) (holding (some b) y) b d
-  unfolding Filing.fileDelivery
+  unfolding Filing.fileDelivery deliveryOutcome
   delivery-by-verdict d = rw (model-held, file-held)
 
   live-reply : (p z q : ℕ) → answerReply (liveIn (holding (some b) y) p z q) ≡ atEntry b p z q (value (liveMark b p z q))
@@ -250,7 +252,7 @@ cleared-holds = refl
 module _ (y : Option (List ℕ)) where
   model-filed : (m : Option (List ℕ)) → Right m y → (b : List ℕ)
       → modelReply (Filing.fileModel (holding m y) b .outcome) ≡ ifNone m (byVerdict (modelVerdict b) accepted)
-  unfolding Filing.fileModel
+  unfolding Filing.fileModel modelOutcome
   model-filed none right b = rw cleared-holds (go (modelVerdict b))
     where
       go : (o : Outcome) → modelReply (modelBy o Filing.cleared b .outcome) ≡ byVerdict o accepted
@@ -261,7 +263,7 @@ module _ (y : Option (List ℕ)) where
   delivery-filed : (m : Option (List ℕ)) → Right m y → (d : List ℕ)
       → deliveryReply (Filing.fileDelivery (holding m y) d .outcome) (Filing.fileDelivery (holding m y) d .mark)
       ≡ ofModel m (λ b. byVerdict (verdict b d) (markOf b y d))
-  unfolding Filing.fileDelivery
+  unfolding Filing.fileDelivery deliveryOutcome
   delivery-filed none right d = rw cleared-holds
   delivery-filed (some b) right d = rw (delivery-by-verdict b y right d) (go (verdict b d) refl)
     where
@@ -334,7 +336,7 @@ module _ (y : Option (List ℕ)) where
   model-after : (m : Option (List ℕ)) → Right m y → (b : List ℕ) →
       let t = taken (ifNone m (byVerdict (modelVerdict b) accepted)) in
       (Filing.fileModel (holding m y) b .register ≡ holding (cond t (some b) m) (cond t none y)) × Right (cond t (some b) m) (cond t none y)
-  unfolding Filing.fileModel
+  unfolding Filing.fileModel modelOutcome
   model-after none right b = rw cleared-holds (go (modelVerdict b) refl)
     where
       go : (o : Outcome) → modelVerdict b ≡ o →
@@ -347,7 +349,7 @@ module _ (y : Option (List ℕ)) where
   delivery-after : (m : Option (List ℕ)) → Right m y → (d : List ℕ) →
       let t = taken (ofModel m (λ b. byVerdict (verdict b d) (markOf b y d))) in
       (Filing.fileDelivery (holding m y) d .register ≡ holding m (cond t (some d) y)) × Right m (cond t (some d) y)
-  unfolding Filing.fileDelivery
+  unfolding Filing.fileDelivery deliveryOutcome
   delivery-after none right d = (rw cleared-holds, right)
   delivery-after (some b) right d = rw (delivery-by-verdict b y right d) (go (verdict b d) refl)
     where

@@ -1,21 +1,17 @@
 -- A refused call changes nothing, whatever the register holds.
 use Prim.Native.Nat.{ℕ}
 use native.Mathlib.Omega.{arith}
-use mathlib.Core.Bool.{cond}
 use mathlib.Core.List.{List}
 use mathlib.Core.Path.{_≡_, refl}
-use lib.IntN.{ℤ, pos}
-use Rattle.outcome.specs.declared.Reason.the-variants.{NoModel, ModelHeld}
+use lib.IntN.{ℤ}
 use Rattle.outcome.specs.declared.Outcome.{Outcome}
 use Rattle.outcome.specs.declared.Outcome.the-variants.{Accepted, Refused}
-use Rattle.wellformed.specs.Verdict.{modelVerdict}
-use Rattle.verdict.specs.Verdict.{verdict}
 use Rattle.register.specs.declared.Register.{Register}
 use Rattle.calls.specs.declared.Mark.{Mark}
 use Rattle.calls.specs.declared.Mark.the-variants.{Known, New, Absent}
 use Rattle.register.specs.Filing as Filing
-use Rattle.register.specs.Filing.{fileOf, modelBy, deliveryBy}
-use Rattle.held.specs.Held.{holdsModel}
+use Rattle.register.specs.Filing.{modelBy, deliveryBy}
+use Rattle.filing.specs.Outcomes.{modelOutcome, fileOf, deliveryOutcome}
 use Rattle.calls.specs.Calls.{Call, clear, fileModel, fileDelivery, upper, lower, meanSteps, margin, live, refused}
 use Rattle.calls.specs.Answers.{modelReply, markReply, deliveryReply}
 use Rattle.history.specs.Run.{afterCall, replyOf}
@@ -40,10 +36,8 @@ delivery-keeps (Refused x j l) r b d e = refl
 pub refused-keeps : (r : Register) (c : Call) → RefusedKeeps r c
 unfolding afterCall replyOf Filing.fileModel Filing.fileDelivery
 refused-keeps r clear n i k e = let z : _≡_ {A = ℕ} 0 1 = cc in absurd (omega arith)
-refused-keeps r (fileModel b) n i k e =
-    model-keeps (cond (holdsModel (r .model .length)) (Refused ModelHeld 0 (pos 0)) (modelVerdict b)) r b e
-refused-keeps r (fileDelivery d) n i k e =
-    delivery-keeps (cond (holdsModel (r .model .length)) (verdict (fileOf r) d) (Refused NoModel 0 (pos 0))) r (fileOf r) d e
+refused-keeps r (fileModel b) n i k e = model-keeps (modelOutcome (r .model .length) b) r b e
+refused-keeps r (fileDelivery d) n i k e = delivery-keeps (deliveryOutcome (r .model) d) r (fileOf (r .model)) d e
 refused-keeps r (upper p z q) n i k e = refl
 refused-keeps r (lower p z q) n i k e = refl
 refused-keeps r (meanSteps p z) n i k e = refl

@@ -3,6 +3,9 @@
 use calls::Answer;
 use calls::Mark;
 use calls::answered;
+use filing::delivery_outcome;
+use filing::mark_by;
+use filing::model_outcome;
 use held::HeldDelivery;
 use held::HeldModel;
 use held::Numbers;
@@ -20,15 +23,9 @@ use held::places::has_entry;
 use held::places::has_row;
 use held::places::row_value;
 use held::places::sizes_held;
-use marks::mark_by;
 use model::sizes::sizes_of;
 use outcome::Outcome;
-use outcome::Reason;
 use outcome::is_refused;
-use outcome::refused;
-
-mod marks; // marks.rt: the mark of an accepted delivery
-
 ghost use mathlib.Core.Path.{_≡_};
 ghost use Rattle.register.specs.Filing.{cleared, turnedDown, fileModel, turnedAway, fileDelivery};
 ghost use Rattle.register.specs.Questions.{upperIn, lowerIn, meanIn, marginIn, liveIn};
@@ -94,13 +91,9 @@ impl Register {
     pub fn file_model(self, file: &[u8]) -> Filed
         ensures { λ r. ⌜ r ≡ fileModel self (now (file .entry)) ⌝ }
     {
-        let length = self.model.length;
-        if holds_model(length) {
-            return model_refused(self, refused(Reason::ModelHeld, 0));
-        }
-        let found = wellformed::check(file);
-        if is_refused(found) {
-            return model_refused(self, found);
+        let outcome = model_outcome(self.model.length, file);
+        if is_refused(outcome) {
+            return model_refused(self, outcome);
         }
         Filed {
             register: Register {
@@ -108,7 +101,7 @@ impl Register {
                 delivery: HeldDelivery::Nothing,
                 numbers: no_numbers(),
             },
-            outcome: found,
+            outcome,
         }
     }
 
@@ -117,30 +110,26 @@ impl Register {
         ensures { λ r. ⌜ r ≡ fileDelivery self (now (file .entry)) ⌝ }
     {
         let held = self.model;
-        let length = held.length;
-        if !holds_model(length) {
-            return delivery_refused(self, refused(Reason::NoModel, 0));
+        let found = delivery_outcome(held, file);
+        if is_refused(found) {
+            return delivery_refused(self, found);
         }
+        let length = held.length;
         let bytes = held.bytes;
         let model = &bytes[..length];
-        let delivery = self.delivery;
-        let another = is_held(delivery);
-        let former = self.numbers;
-        let verdict = certificate::check(model, file);
-        if is_refused(verdict) {
-            return delivery_refused(self, verdict);
-        }
         let n = sizes_of(model);
         let shape = shape_for(file, n);
         let numbers = numbers_of(model, file, n, shape);
-        let mark = mark_by(another, n.entries(), former, numbers);
+        let delivery = self.delivery;
+        let former = self.numbers;
+        let mark = mark_by(is_held(delivery), n.entries(), former, numbers);
         Received {
             register: Register {
                 model: held,
                 delivery: HeldDelivery::Of(shape),
                 numbers,
             },
-            outcome: verdict,
+            outcome: found,
             mark,
         }
     }

@@ -13,6 +13,7 @@ use Rattle.wellformed.specs.Verdict.{wholeRecords, modelTests, modelVerdict}
 use Rattle.register.specs.declared.Register.{Register}
 use Rattle.register.specs.declared.Filed.{Filed}
 use Rattle.held.specs.Held.{holdsModel, noModel}
+use Rattle.filing.specs.Outcomes.{modelOutcome}
 use Rattle.register.specs.Filing.{cleared, fileModel}
 use Rattle.calls.specs.Calls as calls
 use Rattle.calls.specs.Answers.{modelReply}
@@ -28,7 +29,7 @@ unfolding replyOf replies
 whole-accepted = not-refused (fileModel cleared wFile .outcome) (cc (exchanges-replied .1))
 
 cut-refused : isRefused (fileModel cleared (take 39 wFile) .outcome) ≡ true
-unfolding first wholeRecords modelTests modelVerdict holdsModel noModel cleared fileModel
+unfolding first wholeRecords modelTests modelVerdict holdsModel noModel cleared modelOutcome fileModel
 cut-refused = refl
 
 -- What the code asks of the two filings.

@@ -1,12 +1,10 @@
--- `file_delivery`: no held model refuses, then the verdict does, and else the delivery is filed beside its model.
+-- `file_delivery`: a delivery whose outcome is a refusal leaves the register as it is, and any other is filed beside its model.
 use Prim.Native.Nat.{_≤_}
 use native.Mathlib.Omega.{arith}
-use mathlib.Core.Bool.{true}
 use mathlib.Core.Path.{_≡_, sym, _∙_}
 use lib.ListN.{length, take, length-map}
 use lib.Seq.{length-take-le}
 use denote.Ref.{now}
-use borrow.Author.Tests.{not-true, not-false}
 use borrow.Author.Needs.{needs}
 use Rattle.outcome.specs.declared.Outcome.the-variants.{Accepted}
 use Rattle.outcome.proofs.Tests.{not-refused}
@@ -15,74 +13,56 @@ use Rattle.verdict.specs.Verdict.{verdict}
 use Rattle.model.specs.Format.{mostBytes}
 use Rattle.model.proofs.Accepted.{sized-fits}
 use Rattle.certificate.proofs.Steps.{sized-by-verdict}
-use Rattle.held.specs.Held.{holdsModel}
 use Rattle.held.proofs.Becomes.{held-fits, shape-by-verdict}
-use Rattle.register.proofs.Steps.{none-is-held, delivery-turned-away, delivery-filed}
+use Rattle.filing.specs.Outcomes.{deliveryOutcome}
+use Rattle.filing.proofs.Outcomes.{delivery-passed}
+use Rattle.register.proofs.Steps.{delivery-turned-away, delivery-filed}
 use Rattle.register.proofs.Register.file_delivery.Statement.{statement}
 use Rattle.register.proofs.Register.file_delivery.Tie as tie
+
+-- Past the test the delivery is accepted.
+passed : (c : tie.Else1) → let args = c .before .before .before .before .before .args in
+    deliveryOutcome (args .self .model) (now (args .file)) ≡ Accepted
+passed c =
+    let tested = c .before in
+    sym (tested .before .delivery-outcome .ensures) ∙ not-refused _ (sym (tested .is-refused .ensures) ∙ c .if1 .left)
+
+accepted : (c : tie.Else1) → let args = c .before .before .before .before .before .args in
+    verdict (take (args .self .model .length) (args .self .model .bytes)) (now (args .file)) ≡ Accepted
+accepted c = delivery-passed _ _ (passed c) .1
 
 -- A register has as many bytes as the longest file: owning it tells so. A held model's file is within them.
 bytes-size : (c : tie.Start) → length (c .args .self .model .bytes) ≡ mostBytes
 bytes-size c = sym (length-map (c .args .self .model .bytes) (λ v. v)) ∙ c .good .0 .1 .1 .0 .1 .1 .0 .1 .0 .1
 
-holds : (c : tie.Else1) → holdsModel (c .before .before .before .before .args .self .model .length) ≡ true
-holds c = sym (c .before .holds-model .ensures) ∙ not-false _ (c .if1 .left)
-
-within : (c : tie.Else1) → let model = c .before .before .before .before .args .self .model in model .length ≤ length (model .bytes)
-within c = omega (arith, held-fits _ (holds c), bytes-size (c .before .before .before .before))
-
--- Past the second test the delivery is accepted.
-accepted : (c : tie.Else2) → let args = c .before .before .before .before .before .before .before .before .before .before .before .args in
-    verdict (take (args .self .model .length) (args .self .model .bytes)) (now (args .file)) ≡ Accepted
-accepted c =
-    let tested = c .before in
-    sym (tested .before .check .ensures) ∙ not-refused _ (sym (tested .is-refused .ensures) ∙ c .if2 .left)
+within : (c : tie.Else1) → let model = c .before .before .before .before .before .args .self .model in model .length ≤ length (model .bytes)
+within c = omega (arith, held-fits _ (delivery-passed _ _ (passed c) .0), bytes-size (c .before .before .before .before .before))
 
 sized : (c : tie.After-sizes-of)
-    → let args = c .before .before .before .before .before .before .before .before .before .before .before .before .args in
+    → let args = c .before .before .before .before .before .before .before .before .args in
     let n = c .sizes-of .result in Sized (take (args .self .model .length) (args .self .model .bytes)) (n .states) (n .symbols)
-sized c = sized-by-verdict _ (accepted (c .before)) (c .sizes-of .ensures .0)
+sized c = sized-by-verdict _ (accepted (c .before .before .before)) (c .sizes-of .ensures .0)
 
-holds-model-requires : tie.Need-holds-model-requires
-holds-model-requires c κs = search needs
+delivery-outcome-requires : tie.Need-delivery-outcome-requires
+delivery-outcome-requires c κs = search needs
 
-refused-requires : tie.Need-refused-requires
-refused-requires c κs = search needs
+is-refused-requires : tie.Need-is-refused-requires
+is-refused-requires c κs = search needs
 
 delivery-refused-requires : tie.Need-delivery-refused-requires
 delivery-refused-requires c κs = search needs
 
 returns : tie.Need-returns
 returns c =
-    let refused = c .before in
+    let tested = c .before .before in
     c .delivery-refused .ensures
-    ∙ none-is-held _ _ (sym (refused .before .before .holds-model .ensures) ∙ not-true _ (refused .before .if1 .taken)) (refused .refused .ensures)
+    ∙ delivery-turned-away _ _ (tested .before .delivery-outcome .ensures) (sym (tested .is-refused .ensures) ∙ c .before .if1 .taken)
 
 array-share-prefix-bytes : tie.Need-array-share-prefix-bytes
 array-share-prefix-bytes c = within (c .before)
 
 slice-aggregate-model : tie.Need-slice-aggregate-model
 slice-aggregate-model c = sym (length-take-le _ _ (within (c .before .before)))
-
-is-held-requires : tie.Need-is-held-requires
-is-held-requires c κs = search needs
-
-check-requires : tie.Need-check-requires
-check-requires c κs = search needs
-
-is-refused-requires : tie.Need-is-refused-requires
-is-refused-requires c κs = search needs
-
-delivery-refused-requires-2 : tie.Need-delivery-refused-requires-2
-delivery-refused-requires-2 c κs = search needs
-
-returns-2 : tie.Need-returns-2
-returns-2 c =
-    let tested = c .before .before in
-    let found = tested .before in
-    c .delivery-refused2 .ensures
-    ∙ delivery-turned-away _ _ (holds (found .before .before .before .before .before)) (found .check .ensures)
-    (sym (tested .is-refused .ensures) ∙ c .before .if2 .taken)
 
 sizes-of-requires : tie.Need-sizes-of-requires
 sizes-of-requires c κs = search needs
@@ -93,50 +73,49 @@ shape-for-requires c κs = sized-fits (sized c)
 numbers-of-requires : tie.Need-numbers-of-requires
 numbers-of-requires c κs =
     let sizes = c .before in
-    let is = accepted (sizes .before) in
+    let is = accepted (sizes .before .before .before) in
     record {
       file = record { sized = sized sizes; of = shape-by-verdict _ _ (sizes .sizes-of .ensures .0) is (c .shape-for .ensures) };
       accepted = is;
     }
 
+is-held-requires : tie.Need-is-held-requires
+is-held-requires c κs = search needs
+
 entries-requires : tie.Need-entries-requires
-entries-requires c κs = sized-fits (sized (c .before .before))
+entries-requires c κs = sized-fits (sized (c .before .before .before .before))
 
 mark-by-requires : tie.Need-mark-by-requires
 mark-by-requires c κs = search needs
 
-returns-3 : tie.Need-returns-3
-returns-3 c =
+returns-2 : tie.Need-returns-2
+returns-2 c =
     let entries = c .before in
-    let shape = entries .before .before in
+    let asked = entries .before in
+    let numbers = asked .before .before in
+    let shape = numbers .before in
     let sizes = shape .before in
-    let branch = sizes .before in
+    let branch = sizes .before .before .before in
     let tested = branch .before in
-    let found = tested .before in
-    delivery-filed _ _ (holds (found .before .before .before .before .before)) (found .check .ensures)
-    (sym (tested .is-refused .ensures) ∙ branch .if2 .left)
-    (shape .shape-for .ensures) (entries .before .numbers-of .ensures)
+    delivery-filed _ _ (tested .before .delivery-outcome .ensures) (sym (tested .is-refused .ensures) ∙ branch .if1 .left)
+    (shape .shape-for .ensures) (numbers .numbers-of .ensures)
     (sizes .sizes-of .ensures .0) (entries .entries .ensures .0)
-    (found .before .before .is-held .ensures) (c .mark-by .ensures)
+    (asked .is-held .ensures) (c .mark-by .ensures)
 
 pub file-delivery-spec : {M : Type 1} → statement M
 file-delivery-spec =
     tie.close
     (tie.spec
-    holds-model-requires
-    refused-requires
+    delivery-outcome-requires
+    is-refused-requires
     delivery-refused-requires
     returns
     array-share-prefix-bytes
     slice-aggregate-model
-    is-held-requires
-    check-requires
-    is-refused-requires
-    delivery-refused-requires-2
-    returns-2
     sizes-of-requires
     shape-for-requires
     numbers-of-requires
+    is-held-requires
     entries-requires
     mark-by-requires
-    returns-3)
+    returns-2)

@@ -1,8 +1,8 @@
 -- `mark_by`: a delivery is known where another was held and the first n uppers are the same.
 use borrow.Author.Needs.{needs}
-use Rattle.register.proofs.Steps.{same-found, is-known, is-new}
-use Rattle.register.proofs.marks.mark_by.Statement.{statement}
-use Rattle.register.proofs.marks.mark_by.Tie as tie
+use Rattle.filing.proofs.Known.{same-found, is-known, is-new}
+use Rattle.filing.proofs.mark_by.Statement.{statement}
+use Rattle.filing.proofs.mark_by.Tie as tie
 
 same-requires : tie.Need-same-requires
 same-requires c κs = search needs

@@ -1,0 +1,26 @@
+-- The outcome of a filing: a reason found in the register, which comes before any file is read, or the verdict on the file (document 01, "Reasons
+-- found in the register").
+use Prim.Native.Nat.{ℕ}
+use mathlib.Core.Bool.{cond}
+use mathlib.Core.List.{List}
+use lib.IntN.{pos}
+use lib.ListN.{take}
+use Rattle.outcome.specs.declared.Reason.the-variants.{NoModel, ModelHeld}
+use Rattle.outcome.specs.declared.Outcome.{Outcome}
+use Rattle.outcome.specs.declared.Outcome.the-variants.{Refused}
+use Rattle.wellformed.specs.Verdict.{modelVerdict}
+use Rattle.verdict.specs.Verdict.{verdict}
+use Rattle.held.specs.declared.HeldModel.{HeldModel}
+use Rattle.held.specs.Held.{holdsModel}
+
+-- Filing the model b: 41 where one of this length is held.
+unfoldable pub modelOutcome : ℕ → List ℕ → Outcome
+modelOutcome n b = cond (holdsModel n) (Refused ModelHeld 0 (pos 0)) (modelVerdict b)
+
+-- The file of a held model.
+unfoldable pub fileOf : HeldModel → List ℕ
+fileOf m = take (m .length) (m .bytes)
+
+-- Filing the delivery d: 40 where no model is held.
+unfoldable pub deliveryOutcome : HeldModel → List ℕ → Outcome
+deliveryOutcome m d = cond (holdsModel (m .length)) (verdict (fileOf m) d) (Refused NoModel 0 (pos 0))
