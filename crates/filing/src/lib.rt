@@ -22,7 +22,8 @@ pub fn model_outcome(length: usize, file: &[u8]) -> Outcome
     if holds_model(length) {
         return refused(Reason::ModelHeld, 0);
     }
-    wellformed::check(file)
+    let verdict = wellformed::check(file);
+    verdict
 }
 
 // The outcome of filing a delivery for the held model.
@@ -34,7 +35,8 @@ pub fn delivery_outcome(held: HeldModel, file: &[u8]) -> Outcome
         return refused(Reason::NoModel, 0);
     }
     let bytes = held.bytes;
-    certificate::check(&bytes[..length], file)
+    let found = certificate::check(&bytes[..length], file);
+    found
 }
 
 // The mark of a delivery with these numbers, of n entries, by whether another was held.

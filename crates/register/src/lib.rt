@@ -110,6 +110,9 @@ impl Register {
         ensures { λ r. ⌜ r ≡ fileDelivery self (now (file .entry)) ⌝ }
     {
         let held = self.model;
+        let delivery = self.delivery;
+        let another = is_held(delivery);
+        let former = self.numbers;
         let found = delivery_outcome(held, file);
         if is_refused(found) {
             return delivery_refused(self, found);
@@ -120,9 +123,7 @@ impl Register {
         let n = sizes_of(model);
         let shape = shape_for(file, n);
         let numbers = numbers_of(model, file, n, shape);
-        let delivery = self.delivery;
-        let former = self.numbers;
-        let mark = mark_by(is_held(delivery), n.entries(), former, numbers);
+        let mark = mark_by(another, n.entries(), former, numbers);
         Received {
             register: Register {
                 model: held,

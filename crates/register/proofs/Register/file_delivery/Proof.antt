@@ -21,13 +21,13 @@ use Rattle.register.proofs.Register.file_delivery.Statement.{statement}
 use Rattle.register.proofs.Register.file_delivery.Tie as tie
 
 -- Past the test the delivery is accepted.
-passed : (c : tie.Else1) → let args = c .before .before .before .before .before .args in
+passed : (c : tie.Else1) → let args = c .before .before .before .before .before .before .before .args in
     deliveryOutcome (args .self .model) (now (args .file)) ≡ Accepted
 passed c =
     let tested = c .before in
     sym (tested .before .delivery-outcome .ensures) ∙ not-refused _ (sym (tested .is-refused .ensures) ∙ c .if1 .left)
 
-accepted : (c : tie.Else1) → let args = c .before .before .before .before .before .args in
+accepted : (c : tie.Else1) → let args = c .before .before .before .before .before .before .before .args in
     verdict (take (args .self .model .length) (args .self .model .bytes)) (now (args .file)) ≡ Accepted
 accepted c = delivery-passed _ _ (passed c) .1
 
@@ -35,13 +35,16 @@ accepted c = delivery-passed _ _ (passed c) .1
 bytes-size : (c : tie.Start) → length (c .args .self .model .bytes) ≡ mostBytes
 bytes-size c = sym (length-map (c .args .self .model .bytes) (λ v. v)) ∙ c .good .0 .1 .1 .0 .1 .1 .0 .1 .0 .1
 
-within : (c : tie.Else1) → let model = c .before .before .before .before .before .args .self .model in model .length ≤ length (model .bytes)
-within c = omega (arith, held-fits _ (delivery-passed _ _ (passed c) .0), bytes-size (c .before .before .before .before .before))
+within : (c : tie.Else1) → let model = c .before .before .before .before .before .before .before .args .self .model in model .length ≤ length (model .bytes)
+within c = omega (arith, held-fits _ (delivery-passed _ _ (passed c) .0), bytes-size (c .before .before .before .before .before .before .before))
 
 sized : (c : tie.After-sizes-of)
-    → let args = c .before .before .before .before .before .before .before .before .args in
+    → let args = c .before .before .before .before .before .before .before .before .before .before .args in
     let n = c .sizes-of .result in Sized (take (args .self .model .length) (args .self .model .bytes)) (n .states) (n .symbols)
 sized c = sized-by-verdict _ (accepted (c .before .before .before)) (c .sizes-of .ensures .0)
+
+is-held-requires : tie.Need-is-held-requires
+is-held-requires c κs = search needs
 
 delivery-outcome-requires : tie.Need-delivery-outcome-requires
 delivery-outcome-requires c κs = search needs
@@ -79,11 +82,8 @@ numbers-of-requires c κs =
       accepted = is;
     }
 
-is-held-requires : tie.Need-is-held-requires
-is-held-requires c κs = search needs
-
 entries-requires : tie.Need-entries-requires
-entries-requires c κs = sized-fits (sized (c .before .before .before .before))
+entries-requires c κs = sized-fits (sized (c .before .before))
 
 mark-by-requires : tie.Need-mark-by-requires
 mark-by-requires c κs = search needs
@@ -91,8 +91,7 @@ mark-by-requires c κs = search needs
 returns-2 : tie.Need-returns-2
 returns-2 c =
     let entries = c .before in
-    let asked = entries .before in
-    let numbers = asked .before .before in
+    let numbers = entries .before in
     let shape = numbers .before in
     let sizes = shape .before in
     let branch = sizes .before .before .before in
@@ -100,12 +99,13 @@ returns-2 c =
     delivery-filed _ _ (tested .before .delivery-outcome .ensures) (sym (tested .is-refused .ensures) ∙ branch .if1 .left)
     (shape .shape-for .ensures) (numbers .numbers-of .ensures)
     (sizes .sizes-of .ensures .0) (entries .entries .ensures .0)
-    (asked .is-held .ensures) (c .mark-by .ensures)
+    (tested .before .before .before .is-held .ensures) (c .mark-by .ensures)
 
 pub file-delivery-spec : {M : Type 1} → statement M
 file-delivery-spec =
     tie.close
     (tie.spec
+    is-held-requires
     delivery-outcome-requires
     is-refused-requires
     delivery-refused-requires
@@ -115,7 +115,6 @@ file-delivery-spec =
     sizes-of-requires
     shape-for-requires
     numbers-of-requires
-    is-held-requires
     entries-requires
     mark-by-requires
     returns-2)
