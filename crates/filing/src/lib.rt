@@ -22,8 +22,7 @@ pub fn model_outcome(length: usize, file: &[u8]) -> Outcome
     if holds_model(length) {
         return refused(Reason::ModelHeld, 0);
     }
-    let verdict = wellformed::check(file);
-    verdict
+    wellformed::check(file)
 }
 
 // The outcome of filing a delivery for the held model.
@@ -35,8 +34,7 @@ pub fn delivery_outcome(held: HeldModel, file: &[u8]) -> Outcome
         return refused(Reason::NoModel, 0);
     }
     let bytes = held.bytes;
-    let found = certificate::check(&bytes[..length], file);
-    found
+    certificate::check(&bytes[..length], file)
 }
 
 // The mark of a delivery with these numbers, of n entries, by whether another was held.

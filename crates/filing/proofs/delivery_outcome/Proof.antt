@@ -5,6 +5,7 @@ use mathlib.Core.Bool.{true}
 use mathlib.Core.Path.{_≡_, sym, _∙_}
 use lib.ListN.{length, length-map}
 use lib.Seq.{length-take-le}
+use denote.Ref.{now}
 use borrow.Author.Tests.{not-true, not-false}
 use borrow.Author.Needs.{needs}
 use Rattle.model.specs.Format.{mostBytes}
@@ -43,7 +44,10 @@ check-requires : tie.Need-check-requires
 check-requires c κs = search needs
 
 returns-2 : tie.Need-returns-2
-returns-2 c = c .check .ensures ∙ sym (delivery-judged _ _ (holds (c .before .before .before)))
+returns-2 c =
+    let branch = c .before .before .before in
+    let args = branch .before .before .before .args in
+    c .check .ensures ∙ sym (delivery-judged (args .held) (now (args .file)) (holds branch))
 
 pub delivery-outcome-spec : {M : Type 1} → statement M
 delivery-outcome-spec =
