@@ -1,18 +1,17 @@
 -- Mission point 3 for files: what an accepted delivery says is true of the runs of its model. An accepted file makes the claims that the
 -- theorems of crate ppda take.
-use Prim.Native.Nat.{ℕ, _+_, _-_, _*_, _^_, _≤_, _<_}
+use Prim.Native.Nat.{ℕ}
 use native.Mathlib.Omega.{arith}
 use mathlib.Core.Bool.{Bool, true, false, cond}
 use mathlib.Core.List.{List}
-use mathlib.Core.Path.{_≡_, refl, ap, _∙_}
+use mathlib.Core.Path.{_≡_, refl}
 use Rattle.outcome.specs.declared.Outcome.{Outcome}
 use Rattle.outcome.specs.declared.Outcome.the-variants.{Accepted, Refused}
 use Rattle.ppda.specs.Rules.{IsModel}
-use Rattle.ppda.specs.Chances.{chance}
 use Rattle.ppda.specs.Bounds as Bounds
-use Rattle.ppda.specs.Bounds.{UpperHolds, LowerHolds, MeanHolds}
+use Rattle.ppda.specs.Bounds.{LowersHold}
 use Rattle.ppda.proofs.Upper.{upper-holds}
-use Rattle.ppda.proofs.Lower.{lower-holds, lower-as-shown}
+use Rattle.ppda.proofs.Lower.{lower-holds}
 use Rattle.ppda.proofs.Mean.{mean-holds}
 use Rattle.model.specs.Records.{statesOf, symbolsOf}
 use Rattle.model.specs.Rules.{rulesOf}
@@ -26,7 +25,8 @@ use Rattle.verdict.specs.Verdict.{verdict}
 use Rattle.verdict.specs.Accepted.{RightFiles}
 use Rattle.certificate.specs.declared.answer.Margin.the-variants.{Shown, Absent}
 use Rattle.certificate.specs.Margin.{marginOf, shownBy, shownMargin}
-use Rattle.verdict.proofs.Accepted.{live-exactly, dead-exactly, delivery-accepted, shaped-as}
+use Rattle.certificate.specs.Promised.{TrueFor, TrueOfRuns}
+use Rattle.verdict.proofs.Accepted.{live-exactly, dead-exactly, delivery-accepted}
 
 -- ---- what accepted files claim
 
@@ -59,9 +59,31 @@ module _ (b d : List ℕ) (x : RightFiles b d) where
 
 -- ---- what is true of the runs
 
-pub upper-of-files : (b d : List ℕ) → verdict b d ≡ Accepted
-    → UpperHolds (rulesOf b) (statesOf b) (symbolsOf b) (uppersOf (statesOf b) (symbolsOf b) d)
-upper-of-files b d a = let x = delivery-accepted b d .0 a in upper-holds _ _ _ _ (model-of b d x) (uppers-of b d x)
+module _ (b d : List ℕ) (x : RightFiles b d) where
+  true-for : TrueFor b d (statesOf b) (symbolsOf b) (x .shaped)
+  unfolding marginOf
+  true-for = record {
+    uppers = upper-holds _ _ _ _ (model-of b d x) (uppers-of b d x);
+    lowers = λ has. lower-holds _ _ _ _ _ (model-of b d x) (uppers-of b d x) (lowers-of b d x has);
+    means = λ has. mean-holds _ _ _ _ _ (model-of b d x) (uppers-of b d x) (means-of b d x has);
+  }
+
+  pub right-true : TrueOfRuns b d
+  right-true = record { shape = x .shaped; shaped = x .delivery .shape; bounds = true-for }
+
+-- What is accepted is true of the runs.
+pub accepted-true : (b d : List ℕ) → verdict b d ≡ Accepted → TrueOfRuns b d
+accepted-true b d accepted = right-true b d (delivery-accepted b d .0 accepted)
+
+-- The same by the shape of the file.
+pub true-of-shape : (b d : List ℕ) (h : Shape) → verdict b d ≡ Accepted → shapeOf (statesOf b) (symbolsOf b) d ≡ Of h
+    → TrueFor b d (statesOf b) (symbolsOf b) h
+true-of-shape b d h accepted shape =
+    let holds = accepted-true b d accepted in
+    let same : holds .shape ≡ h = let of = holds .shaped in cc in
+    rw same at (holds .bounds)
+
+-- ---- the margin that is shown
 
 -- A margin is shown of an accepted delivery whose shape has lowers, and it is that of the delivery's uppers.
 shown-by : (o : Outcome) (t : Shaped) (a m : ℕ) → shownBy o t a ≡ Shown m
@@ -80,46 +102,9 @@ pub shown-margin : (b d : List ℕ) (m : ℕ) → shownMargin b d ≡ Shown m
 unfolding shownMargin
 shown-margin b d m = shown-by (verdict b d) (shapeOf (statesOf b) (symbolsOf b) d) (marginOf b d) m
 
-module _ (b d : List ℕ) (h : Shape) (accepted : verdict b d ≡ Accepted) (shape : shapeOf (statesOf b) (symbolsOf b) d ≡ Of h) where
-  filed : RightFiles b d
-  filed = delivery-accepted b d .0 accepted
-
-  pub lower-of-shape : hasLowers h ≡ true
-      → LowerHolds (rulesOf b) (statesOf b) (symbolsOf b)
-      (uppersOf (statesOf b) (symbolsOf b) d) (lowersOf (statesOf b) (symbolsOf b) d) (marginOf b d)
-  unfolding marginOf
-  lower-of-shape has =
-      lower-holds _ _ _ _ _ (model-of b d filed) (uppers-of b d filed)
-      (lowers-of b d filed (ap hasLowers (shaped-as b d filed h shape) ∙ has))
-
-  -- Document 01's sentence, with m the margin over 2^20.
-  pub lower-as-shown-of-shape : hasLowers h ≡ true → (k p z q : ℕ) → p < statesOf b → z < symbolsOf b → q < statesOf b
-      → lowersOf (statesOf b) (symbolsOf b) d p z q * 65536 ^ (2 ^ k - 1) * (2 ^ 20) ^ k
-      ≤ chance (rulesOf b) (2 ^ k - 1) p z q * 2 ^ 20 * (2 ^ 20) ^ k
-      + (2 ^ 20 - marginOf b d) ^ k * uppersOf (statesOf b) (symbolsOf b) d p z q * 65536 ^ (2 ^ k - 1)
-  unfolding marginOf
-  lower-as-shown-of-shape has =
-      lower-as-shown _ _ _ _ _ (model-of b d filed) (uppers-of b d filed)
-      (lowers-of b d filed (ap hasLowers (shaped-as b d filed h shape) ∙ has))
-
-  pub mean-of-files : hasMeans h ≡ true → MeanHolds (rulesOf b) (statesOf b) (symbolsOf b) (meansOf (statesOf b) (symbolsOf b) h d)
-  mean-of-files has =
-      let e = shaped-as b d filed h shape in
-      mean-holds _ _ _ _ _ (model-of b d filed) (uppers-of b d filed) (rw e at (means-of b d filed (ap hasMeans e ∙ has)))
-
 -- The lowers by the margin that is shown.
-module _ (b d : List ℕ) (m : ℕ) (shown : shownMargin b d ≡ Shown m) where
-  pub lower-of-files : LowerHolds (rulesOf b) (statesOf b) (symbolsOf b)
-      (uppersOf (statesOf b) (symbolsOf b) d) (lowersOf (statesOf b) (symbolsOf b) d) m
-  lower-of-files =
-      let (h, accepted, shape, has, same) = shown-margin b d m shown in
-      rw same at (lower-of-shape b d h accepted shape has)
-
-  -- Document 01's sentence, with m the margin shown over 2^20.
-  pub lower-as-shown-of-files : (k p z q : ℕ) → p < statesOf b → z < symbolsOf b → q < statesOf b
-      → lowersOf (statesOf b) (symbolsOf b) d p z q * 65536 ^ (2 ^ k - 1) * (2 ^ 20) ^ k
-      ≤ chance (rulesOf b) (2 ^ k - 1) p z q * 2 ^ 20 * (2 ^ 20) ^ k
-      + (2 ^ 20 - m) ^ k * uppersOf (statesOf b) (symbolsOf b) d p z q * 65536 ^ (2 ^ k - 1)
-  lower-as-shown-of-files =
-      let (h, accepted, shape, has, same) = shown-margin b d m shown in
-      rw same at (lower-as-shown-of-shape b d h accepted shape has)
+pub lower-by-shown-margin : (b d : List ℕ) (m : ℕ) → shownMargin b d ≡ Shown m
+    → LowersHold (rulesOf b) (statesOf b) (symbolsOf b) (uppersOf (statesOf b) (symbolsOf b) d) (lowersOf (statesOf b) (symbolsOf b) d) m
+lower-by-shown-margin b d m shown =
+    let (h, accepted, shape, has, same) = shown-margin b d m shown in
+    rw same at (true-of-shape b d h accepted shape .lowers has)

@@ -1,29 +1,84 @@
--- The mission's points 1 to 3 for a register after any list of calls, latest first.
-use Prim.Native.Nat.{ℕ, _+_, _-_, _*_, _^_, _≤_}
+-- The mission's points 1 to 3 for a register after any list of calls, latest first. The record `Mission` gathers them, in the mission's order,
+-- and theorem `mission` proves it for every list.
+use Prim.Native.Nat.{ℕ, _≤_}
 use mathlib.Core.Bool.{true}
-use mathlib.Core.List.{List, []}
-use mathlib.Core.Logic.{_↔_, _⊎_}
+use mathlib.Core.List.{List, [], _∷_}
+use mathlib.Core.Logic.{_↔_}
 use mathlib.Core.Option.{none, some}
 use mathlib.Core.Path.{_≡_}
 use lib.IntN.{ℤ}
-use Rattle.ppda.specs.Units.{weightUnit, chanceUnit, stepUnit}
-use Rattle.ppda.specs.Chances.{chance, mean}
+use Rattle.outcome.specs.Reasons.{numberOf}
+use Rattle.outcome.specs.Tests.{Test, FirstFailure}
+use Rattle.walks.specs.Sums.{In}
 use Rattle.ppda.specs.Live.{isLive, Live}
-use Rattle.ppda.specs.Margin.{whole, kept}
+use Rattle.ppda.specs.Bounds.{UpperHolds, LowerHolds, MeanHolds}
 use Rattle.model.specs.Rules.{rulesOf}
 use Rattle.model.specs.Accepted.{ModelFile}
+use Rattle.wellformed.specs.Verdict.{modelTests}
+use Rattle.verdict.specs.Verdict.{deliveryTests}
 use Rattle.verdict.specs.Accepted.{RightFiles}
 use Rattle.register.specs.declared.Register.{Register}
-use Rattle.register.specs.Filing.{cleared}
-use Rattle.calls.specs.Calls.{Call, fileModel, fileDelivery, upper, lower, meanSteps, margin, live, accepted, value, refused, taken}
+use Rattle.register.specs.Filing.{cleared, Marked}
+use Rattle.calls.specs.Calls.{Call, clear, fileModel, fileDelivery, upper, lower, meanSteps, margin, live, accepted, value, refused, taken}
 use Rattle.history.specs.Plain.{lastModel, pairOf, plainReply, plainReplies}
 use Rattle.history.specs.Run.{afterCall, replyOf, registerAfter, replyTo, history, replies, registerOf}
 
--- Point 1, on refusals: "a refused call changes nothing", for any value of a register.
+-- ---- point 1
+
+-- The numbers that document 01 lists for a call: those of the register in their order, then those of the file.
+abbrev pub listed : Call → List ℕ
+listed clear = []
+listed (fileModel b) = 41 ∷ 10 ∷ 11 ∷ 12 ∷ 13 ∷ 14 ∷ 15 ∷ []
+listed (fileDelivery d) = 40 ∷ 20 ∷ 21 ∷ 22 ∷ 23 ∷ 24 ∷ 25 ∷ 26 ∷ 27 ∷ []
+listed (upper p z q) = 40 ∷ 42 ∷ 44 ∷ []
+listed (lower p z q) = 40 ∷ 42 ∷ 44 ∷ 43 ∷ []
+listed (meanSteps p z) = 40 ∷ 42 ∷ 44 ∷ 43 ∷ []
+listed margin = 40 ∷ 42 ∷ 43 ∷ []
+listed (live p z q) = 40 ∷ 44 ∷ []
+
+-- "Bad input gets its listed number": a refusal has a number of the call's list. (Which one is said under point 2.)
+abbrev pub NumberListed : List Call → Type 0
+NumberListed cs = (c : Call) (number place : ℕ) (shortfall : ℤ) → replyTo cs c ≡ refused number place shortfall → In number (listed c)
+
+-- "A refused call changes nothing", for any value of a register.
 abbrev pub RefusedKeeps : Register → Call → Type 0
 RefusedKeeps r c = (number place : ℕ) (shortfall : ℤ) → replyOf r c ≡ refused number place shortfall → afterCall r c ≡ r
 
--- Point 2: the register holds the files last accepted since it was cleared and nothing else; and every call is replied as the plain pair would.
+-- ---- point 2
+
+-- The model that is held: the one last accepted since the last clearing.
+abbrev pub Holds : List Call → List ℕ → Type 0
+Holds cs b = lastModel (history cs) ≡ some b
+
+-- "Acceptance is exactly document 01's rules": a model is accepted exactly where none is held and the rules accept its file, and a delivery where
+-- they accept it for the held model.
+abbrev pub ModelTaken : List Call → Type 0
+ModelTaken cs = (b : List ℕ) → (replyTo cs (fileModel b) ≡ accepted) ↔ ((lastModel (history cs) ≡ none) × ModelFile b)
+
+abbrev pub DeliveryTaken : List Call → Type 0
+DeliveryTaken cs = (d : List ℕ) → (taken (replyTo cs (fileDelivery d)) ≡ true) ↔ ((b : List ℕ) × Holds cs b × RightFiles b d)
+
+-- A refusal that names the first of the tests that fails: its reason's number, its place and its shortfall.
+pub record Names (ts : List Test) (number place : ℕ) (shortfall : ℤ) : Type 0 where
+  pub test : Test
+  pub failure : FirstFailure ts test
+  pub number-named : numberOf (test .reason) ≡ number
+  pub place-named : test .place ≡ place
+  pub shortfall-named : test .shortfall ≡ shortfall
+
+-- "Otherwise the first failure in the fixed order is named": of a model where none is held, and of a delivery for the held model.
+abbrev pub ModelNamed : List Call → Type 0
+ModelNamed cs =
+    (b : List ℕ) (number place : ℕ) (shortfall : ℤ) → lastModel (history cs) ≡ none
+    → (replyTo cs (fileModel b) ≡ refused number place shortfall) ↔ Names (modelTests b) number place shortfall
+
+abbrev pub DeliveryNamed : List Call → Type 0
+DeliveryNamed cs =
+    (b d : List ℕ) (number place : ℕ) (shortfall : ℤ) → Holds cs b
+    → (replyTo cs (fileDelivery d) ≡ refused number place shortfall) ↔ Names (deliveryTests b d) number place shortfall
+
+-- "The register shows the files last accepted since it was cleared and no others": it holds the plain pair and nothing else, and replies to every
+-- call as that pair would.
 abbrev pub HoldsPair : List Call → Type 0
 HoldsPair cs = registerAfter cs ≡ registerOf (pairOf (history cs))
 
@@ -34,26 +89,12 @@ AsPlainPair cs = (c : Call) → replyTo cs c ≡ plainReply (pairOf (history cs)
 abbrev pub RepliesAsPlain : List Call → Type 0
 RepliesAsPlain cs = replies cleared cs ≡ plainReplies [] cs
 
--- The model that is held: the one last accepted since the last clearing.
-abbrev pub Holds : List Call → List ℕ → Type 0
-Holds cs b = lastModel (history cs) ≡ some b
+-- ---- point 3, for what the questions answer: the inequalities of crate ppda (`Bounds`), of the model that is held
 
--- Point 2: a model is accepted exactly where none is held and document 01's rules accept its file, and a delivery where they accept it for the
--- held model.
-abbrev pub ModelTaken : List Call → Type 0
-ModelTaken cs = (b : List ℕ) → (replyTo cs (fileModel b) ≡ accepted) ↔ ((lastModel (history cs) ≡ none) × ModelFile b)
-
-abbrev pub DeliveryTaken : List Call → Type 0
-DeliveryTaken cs = (d : List ℕ) → (taken (replyTo cs (fileDelivery d)) ≡ true) ↔ ((b : List ℕ) × Holds cs b × RightFiles b d)
-
--- Point 3, for what the questions answer. "Every chance within n steps is at most the upper."
 abbrev pub UpperShown : List Call → Type 0
-UpperShown cs =
-    (p z q u : ℕ) → replyTo cs (upper p z q) ≡ value u
-    → (b : List ℕ) × Holds cs b × ((n : ℕ) → chance (rulesOf b) n p z q * chanceUnit ≤ u * weightUnit ^ n)
+UpperShown cs = (p z q u : ℕ) → replyTo cs (upper p z q) ≡ value u → (b : List ℕ) × Holds cs b × UpperHolds (rulesOf b) p z q u
 
--- "Every chance within 2^k − 1 steps is at least the lower less (1 − m)^k times the upper", with the upper u and the margin m that the
--- questions on them answer.
+-- For a lower, with the upper and the margin that the questions on them answer.
 pub record LowerHeld (cs : List Call) (p z q l : ℕ) : Type 0 where
   pub model : List ℕ
   pub upper-shown : ℕ
@@ -61,24 +102,13 @@ pub record LowerHeld (cs : List Call) (p z q l : ℕ) : Type 0 where
   pub held : Holds cs model
   pub upper-asked : replyTo cs (upper p z q) ≡ value upper-shown
   pub margin-asked : replyTo cs margin ≡ value margin-shown
-  pub holds : (k : ℕ)
-      → l * weightUnit ^ (2 ^ k - 1) * chanceUnit ^ k
-      ≤ chance (rulesOf model) (2 ^ k - 1) p z q * chanceUnit * chanceUnit ^ k
-      + (chanceUnit - margin-shown) ^ k * upper-shown * weightUnit ^ (2 ^ k - 1)
-  -- The same with an m that is never 0: the margin shown, or 1/2^57 where that is 0 (crate ppda, `kept`, `whole`).
-  pub holds-above-zero : (k : ℕ)
-      → l * weightUnit ^ (2 ^ k - 1) * whole margin-shown ^ k
-      ≤ chance (rulesOf model) (2 ^ k - 1) p z q * chanceUnit * whole margin-shown ^ k
-      + kept margin-shown ^ k * upper-shown * weightUnit ^ (2 ^ k - 1)
+  pub holds : LowerHolds (rulesOf model) p z q l upper-shown margin-shown
 
 abbrev pub LowerShown : List Call → Type 0
 LowerShown cs = (p z q l : ℕ) → replyTo cs (lower p z q) ≡ value l → LowerHeld cs p z q l
 
--- "Every mean of steps counted to n is at most the figure."
 abbrev pub MeanShown : List Call → Type 0
-MeanShown cs =
-    (p z r : ℕ) → replyTo cs (meanSteps p z) ≡ value r
-    → (b : List ℕ) × Holds cs b × ((n : ℕ) → mean (rulesOf b) n p z * stepUnit ≤ r * weightUnit ^ n)
+MeanShown cs = (p z r : ℕ) → replyTo cs (meanSteps p z) ≡ value r → (b : List ℕ) × Holds cs b × MeanHolds (rulesOf b) p z r
 
 -- The live mark says live where some run empties the stack in q; it is 1 or 0.
 abbrev pub LiveShown : List Call → Type 0
@@ -86,7 +116,27 @@ LiveShown cs =
     (p z q a : ℕ) → replyTo cs (live p z q) ≡ value a
     → (b : List ℕ) × Holds cs b × ((isLive a ≡ true) ↔ Live (rulesOf b) p z q) × (a ≤ 1)
 
--- "A question on live marks can get 40 and 44 only."
-abbrev pub LiveRefused : List Call → Type 0
-LiveRefused cs =
-    (p z q number place : ℕ) (shortfall : ℤ) → replyTo cs (live p z q) ≡ refused number place shortfall → (number ≡ 40) ⊎ (number ≡ 44)
+-- ---- the mission, point by point
+
+pub record Mission (cs : List Call) : Type 0 where
+  -- 1. "It ends on every pair of files and every sequence of calls": replies and registers are defined for every list of calls, and each call's
+  -- contract equates a function that is proved to return with them. "Bad input gets its listed number; a refused call changes nothing."
+  pub numbers-listed : NumberListed cs
+  pub refusals-keep : (c : Call) → RefusedKeeps (registerAfter cs) c
+  -- 2. "Acceptance is exactly document 01's rules, in exact arithmetic", and an accepted delivery is marked, a refused one is not;
+  pub models-taken : ModelTaken cs
+  pub deliveries-taken : DeliveryTaken cs
+  pub deliveries-marked : (d : List ℕ) → Marked (registerAfter cs) d
+  -- "otherwise the first failure in the fixed order is named."
+  pub models-named : ModelNamed cs
+  pub deliveries-named : DeliveryNamed cs
+  -- "The register shows the files last accepted since it was cleared and no others."
+  pub pair-held : HoldsPair cs
+  pub pair-shown : AsPlainPair cs
+  pub pair-shown-in-time : RepliesAsPlain cs
+  -- 3. "What is accepted is true of the runs: every chance within n steps is at most the upper; every chance within 2^k − 1 steps is at least the
+  -- lower less (1 − m)^k times the upper; every mean of steps counted to n is at most the figure." And live marks are true of them.
+  pub uppers-true : UpperShown cs
+  pub lowers-true : LowerShown cs
+  pub means-true : MeanShown cs
+  pub live-marks-true : LiveShown cs

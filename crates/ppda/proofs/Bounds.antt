@@ -4,12 +4,12 @@ use mathlib.Core.List.{List}
 use Rattle.ppda.specs.Rules.{Rule, IsModel}
 use Rattle.ppda.specs.Equations.{Vector, RowVector}
 use Rattle.ppda.specs.Margin.{margin}
-use Rattle.ppda.specs.Bounds.{Certificate, UpperHolds, LowerHolds, MeanHolds}
+use Rattle.ppda.specs.Bounds.{Certificate, UppersHold, LowersHold, MeansHold}
 use Rattle.ppda.proofs.Upper.{upper-holds}
 use Rattle.ppda.proofs.Lower.{lower-holds}
 use Rattle.ppda.proofs.Mean.{mean-holds}
 
 pub certificate-holds : (m : List Rule) (s g : ℕ) (u l : Vector) (r : RowVector) → IsModel s g m → Certificate m s g u l r
-    → UpperHolds m s g u × LowerHolds m s g u l (margin m s g u) × MeanHolds m s g r
+    → UppersHold m s g u × LowersHold m s g u l (margin m s g u) × MeansHold m s g r
 certificate-holds m s g u l r model c =
     (upper-holds m s g u model (c .uppers), lower-holds m s g u l model (c .uppers) (c .lowers), mean-holds m s g u r model (c .uppers) (c .means))

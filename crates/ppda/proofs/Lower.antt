@@ -8,15 +8,16 @@ use mathlib.Core.Path.{_≡_, refl, ap}
 use mathlib.Core.List.{List}
 use lib.Dec.{lit<}
 use lib.Pow.{pow-add, pow-pos}
+use Rattle.walks.specs.Order.{AtEntries}
 use Rattle.ppda.specs.Rules.{Rule, Push, nothing, one, two, pushed, Below, IsModel}
 use Rattle.ppda.specs.Chances.{chance}
 use Rattle.ppda.specs.Equations.{Vector, through, f}
 use Rattle.ppda.specs.Margin.{margin, whole, kept}
-use Rattle.ppda.specs.Bounds.{Uppers, Lowers, LowerHolds, stepsOf}
+use Rattle.ppda.specs.Bounds.{Uppers, Lowers, LowerBy, LowersHold, stepsOf}
 use Rattle.walks.proofs.Sums.{sumTo-combined}
 use Rattle.ppda.proofs.Rows.{row-combined}
 use Rattle.ppda.proofs.Equations.{Under, f-grows, f-le-chance}
-use Rattle.ppda.proofs.Upper.{upper-holds}
+use Rattle.ppda.proofs.Upper.{chances-under}
 use Rattle.ppda.proofs.Margin.{f-le-kept, kept-below-whole}
 
 -- ---- f is convex between v ≤ u
@@ -126,7 +127,7 @@ module _ (m : List Rule) (s g : ℕ) (u l : Vector) (model : IsModel s g m) (upp
           ≤ h ^ k * b * (2 ^ 20 * 2 ^ 20) * fp + h ^ k * c ^ k * (scale * scale) * fu
       fmix =
           rw e at
-          (f-convex m s g model b (c ^ k) scale (2 ^ 20) (chance m (stepsOf k)) u (upper-holds m s g u model uppers (stepsOf k)) p z q hq)
+          (f-convex m s g model b (c ^ k) scale (2 ^ 20) (chance m (stepsOf k)) u (chances-under m s g u model uppers (stepsOf k)) p z q hq)
 
       main : l p z q * (2 ^ 20 * (h ^ k * (65536 * (scale * scale)))) ≤ b * (2 ^ 20 * 2 ^ 20) * fp + c ^ k * (scale * scale) * fu
       main =
@@ -146,42 +147,22 @@ module _ (m : List Rule) (s g : ℕ) (u l : Vector) (model : IsModel s g m) (upp
 drop-weight : (b w k l e d v u : ℕ) → b ≤ w → l * (w * e) ≤ b * (v * d) + k * (u * e) → l * e * w ≤ v * d * w + k * u * e
 drop-weight b w k l e d v u le h = omega (arith, mul-le-mul-right (v * d) le)
 
-pub lower-holds : (m : List Rule) (s g : ℕ) (u l : Vector) → IsModel s g m → Uppers m s g u → Lowers m s g u l
-    → LowerHolds m s g u l (margin m s g u)
-lower-holds m s g u l model uppers lowers k p z q hp hz hq =
-    let a = margin m s g u in
-    let (b, e, between) =
-    lower-between m s g u l model uppers lowers (whole a) (kept a) (kept-below-whole a) (f-le-kept m s g u l uppers lowers) k in
-    drop-weight b (whole a ^ k) (kept a ^ k) (l p z q) (65536 ^ stepsOf k) (2 ^ 20) (chance m (stepsOf k) p z q) (u p z q)
-    (le-intro b (kept a ^ k) e) (between p z q hp hz hq)
+module _ (m : List Rule) (s g : ℕ) (u l : Vector) (model : IsModel s g m) (uppers : Uppers m s g u) (lowers : Lowers m s g u l) where
+  -- With an m that is never 0.
+  by-kept : AtEntries s g (λ p z q. LowerBy m p z q (l p z q) (u p z q) (kept (margin m s g u)) (whole (margin m s g u)))
+  by-kept p z q hp hz hq k =
+      let a = margin m s g u in
+      let (b, e, between) =
+      lower-between m s g u l model uppers lowers (whole a) (kept a) (kept-below-whole a) (f-le-kept m s g u l uppers lowers) k in
+      drop-weight b (whole a ^ k) (kept a ^ k) (l p z q) (65536 ^ stepsOf k) (2 ^ 20) (chance m (stepsOf k) p z q) (u p z q)
+      (le-intro b (kept a ^ k) e) (between p z q hp hz hq)
 
--- ---- the promise in its own numbers
+  -- As document 01 has it. Where the margin is 0, l ≤ u says it; else the two are the same.
+  by-margin-shown : (a : ℕ) → margin m s g u ≡ a → AtEntries s g (λ p z q. LowerBy m p z q (l p z q) (u p z q) (2 ^ 20 - a) (2 ^ 20))
+  unfolding kept
+  by-margin-shown zero e p z q hp hz hq k = omega (arith, mul-le-mul-right (65536 ^ stepsOf k * (2 ^ 20) ^ k) (lowers p z q hp hz hq .below))
+  by-margin-shown (suc a) e p z q hp hz hq k = rw e at (by-kept p z q hp hz hq k)
 
--- Where the margin is 0, m is 1/2^57.
-pub lower-without-margin : (m : List Rule) (s g : ℕ) (u l : Vector) → IsModel s g m → Uppers m s g u → Lowers m s g u l
-    → margin m s g u ≡ 0 → (k p z q : ℕ) → p < s → z < g → q < s
-    → l p z q * 65536 ^ (2 ^ k - 1) * (2 ^ 57) ^ k
-    ≤ chance m (2 ^ k - 1) p z q * 2 ^ 20 * (2 ^ 57) ^ k + (2 ^ 57 - 1) ^ k * u p z q * 65536 ^ (2 ^ k - 1)
-unfolding stepsOf kept
-lower-without-margin m s g u l model uppers lowers e k p z q hp hz hq = rw e at (lower-holds m s g u l model uppers lowers k p z q hp hz hq)
-
--- Elsewhere m is the margin over 2^20.
-pub lower-with-margin : (m : List Rule) (s g : ℕ) (u l : Vector) (a : ℕ) → IsModel s g m → Uppers m s g u → Lowers m s g u l
-    → margin m s g u ≡ suc a → (k p z q : ℕ) → p < s → z < g → q < s
-    → l p z q * 65536 ^ (2 ^ k - 1) * (2 ^ 20) ^ k
-    ≤ chance m (2 ^ k - 1) p z q * 2 ^ 20 * (2 ^ 20) ^ k + (2 ^ 20 - suc a) ^ k * u p z q * 65536 ^ (2 ^ k - 1)
-unfolding stepsOf kept
-lower-with-margin m s g u l a model uppers lowers e k p z q hp hz hq = rw e at (lower-holds m s g u l model uppers lowers k p z q hp hz hq)
-
--- Document 01's sentence as it stands, with m the margin shown over 2^20, be it 0 or not.
-pub lower-as-shown : (m : List Rule) (s g : ℕ) (u l : Vector) → IsModel s g m → Uppers m s g u → Lowers m s g u l
-    → (k p z q : ℕ) → p < s → z < g → q < s
-    → l p z q * 65536 ^ (2 ^ k - 1) * (2 ^ 20) ^ k
-    ≤ chance m (2 ^ k - 1) p z q * 2 ^ 20 * (2 ^ 20) ^ k + (2 ^ 20 - margin m s g u) ^ k * u p z q * 65536 ^ (2 ^ k - 1)
-lower-as-shown m s g u l model uppers lowers k p z q hp hz hq = go (margin m s g u) refl
-  where
-    go : (a : ℕ) → margin m s g u ≡ a
-        → l p z q * 65536 ^ (2 ^ k - 1) * (2 ^ 20) ^ k
-        ≤ chance m (2 ^ k - 1) p z q * 2 ^ 20 * (2 ^ 20) ^ k + (2 ^ 20 - margin m s g u) ^ k * u p z q * 65536 ^ (2 ^ k - 1)
-    go zero e = rw e (omega (arith, mul-le-mul-right (65536 ^ (2 ^ k - 1) * (2 ^ 20) ^ k) (lowers p z q hp hz hq .below)))
-    go (suc a) e = rw e (lower-with-margin m s g u l a model uppers lowers e k p z q hp hz hq)
+  pub lower-holds : LowersHold m s g u l (margin m s g u)
+  lower-holds p z q hp hz hq =
+      record { as-shown = by-margin-shown (margin m s g u) refl p z q hp hz hq; above-zero = by-kept p z q hp hz hq }

@@ -9,15 +9,16 @@ use mathlib.Core.List.{List, [], _∷_, _++_, append-assoc}
 use lib.Dec.{lit<}
 use lib.ListN.{length}
 use Rattle.walks.specs.Sums.{In}
+use Rattle.walks.specs.Order.{AtRows}
 use Rattle.ppda.specs.Rules.{Rule, Push, nothing, one, two, overRow, pushed, Below, IsModel}
 use Rattle.ppda.specs.Chances.{counted, mean}
 use Rattle.ppda.specs.Equations.{Vector, RowVector, stepsThrough, meanSide}
-use Rattle.ppda.specs.Bounds.{Uppers, Means, MeanHolds}
+use Rattle.ppda.specs.Bounds.{Uppers, Means, MeansHold}
 use Rattle.walks.proofs.Sums.{sumTo-scaled}
 use Rattle.ppda.proofs.Rows.{row-mono, row-cong, row-add, row-mul, row-combined, row-scaled}
 use Rattle.ppda.proofs.Steps.{counted-zero, counted-empty, counted-step, counted-add}
 use Rattle.ppda.proofs.Mass.{after-below, row-of-power, mass-whole-from}
-use Rattle.ppda.proofs.Upper.{power-positive, upper-holds}
+use Rattle.ppda.proofs.Upper.{power-positive, chances-under}
 use Rattle.ppda.proofs.Stacks.{below-append, followed, followed-empty, followed-step, followed-scaled}
 
 -- The mean of steps from state p with the stack σ.
@@ -103,14 +104,16 @@ two-step : (e d h x a c y b : ℕ) → 0 < e → e * x ≤ e * a + c → a * h �
 two-step e d h x a c y b he split first second =
     le-of-mul-le-mul-left {k = e} (omega (arith, mul-le-mul-right (h * d) split, mul-le-mul-right (d * e) first)) he
 
-pub mean-holds : (m : List Rule) (s g : ℕ) (u : Vector) (r : RowVector) → IsModel s g m → Uppers m s g u → Means m s g u r → MeanHolds m s g r
+-- At every row, for one n after the other.
+means-under : (m : List Rule) (s g : ℕ) (u : Vector) (r : RowVector) → IsModel s g m → Uppers m s g u → Means m s g u r
+    → (n : ℕ) → AtRows s g (λ p z. mean m n p z * 2 ^ 8 ≤ r p z * 65536 ^ n)
 unfolding followed meanSide
-mean-holds m s g u r model uppers means zero p z hp hz = simp (mean-zero m s g model, zero-mul) zero-le
-mean-holds m s g u r model uppers means (suc n) p z hp hz =
+means-under m s g u r model uppers means zero p z hp hz = simp (mean-zero m s g model, zero-mul) zero-le
+means-under m s g u r model uppers means (suc n) p z hp hz =
     rw (mean-step m s g model n p z [] hp hz tt, pow-succ' 65536 n)
     (figure-step (65536 ^ n) (2 ^ 20) (2 ^ 8) _ _ (r p z) (lit< tt)
     (row-scaled m p z (2 ^ 8 * 2 ^ 20) (65536 ^ n) _ _
-    (λ k i. each (mean-holds m s g u r model uppers means n) (k .target) (k .push) (model .rule k i .target) (model .rule k i .push)))
+    (λ k i. each (means-under m s g u r model uppers means n) (k .target) (k .push) (model .rule k i .target) (model .rule k i .push)))
     (means p z hp hz))
   where
     each : ((p z : ℕ) → p < s → z < g → mean m n p z * 2 ^ 8 ≤ r p z * 65536 ^ n)
@@ -122,4 +125,7 @@ mean-holds m s g u r model uppers means (suc n) p z hp hz =
         two-step (65536 ^ n) (2 ^ 20) (2 ^ 8) _ _ _ _ _ (power-positive n)
         (mean-split m s g model n t (y ∷ []) (x ∷ []) ht (b .0, tt) (b .1)) (ih t y ht (b .0))
         (sumTo-scaled (2 ^ 8 * 2 ^ 20) (65536 ^ n * 65536 ^ n) _ _ s
-        (λ k hk. omega (arith, mul-le-mul (upper-holds m s g u model uppers n t y k ht (b .0) hk) (ih k x hk (b .1 .0)))))
+        (λ k hk. omega (arith, mul-le-mul (chances-under m s g u model uppers n t y k ht (b .0) hk) (ih k x hk (b .1 .0)))))
+
+pub mean-holds : (m : List Rule) (s g : ℕ) (u : Vector) (r : RowVector) → IsModel s g m → Uppers m s g u → Means m s g u r → MeansHold m s g r
+mean-holds m s g u r model uppers means p z hp hz n = means-under m s g u r model uppers means n p z hp hz

@@ -8,9 +8,9 @@ use lib.Dec.{lit<}
 use Rattle.ppda.specs.Rules.{Rule, IsModel}
 use Rattle.ppda.specs.Chances.{chance}
 use Rattle.ppda.specs.Equations.{Vector, f}
-use Rattle.ppda.specs.Bounds.{Uppers, UpperHolds}
+use Rattle.ppda.specs.Bounds.{Uppers, UppersHold}
 use Rattle.ppda.proofs.Steps.{chance-zero}
-use Rattle.ppda.proofs.Equations.{f-grows, chance-step-le-f}
+use Rattle.ppda.proofs.Equations.{Under, f-grows, chance-step-le-f}
 
 pub power-positive : (n : ℕ) → 0 < 65536 ^ n
 power-positive n = one-le-pow n 65536 (zero-lt-suc 65535)
@@ -20,10 +20,14 @@ cancel : (e d c x y u : ℕ) → 0 < e → 0 < d → e * c ≤ x → x * (d * d)
 cancel e d c x y u he hd h1 h2 h3 =
     le-of-mul-le-mul-left {k = e * d} (omega (arith, mul-le-mul-right (d * d) h1, mul-le-mul-right (e * e) h3)) (mul-pos he hd)
 
-pub upper-holds : (m : List Rule) (s g : ℕ) (u : Vector) → IsModel s g m → Uppers m s g u → UpperHolds m s g u
-upper-holds m s g u model uppers zero p z q hp hz hq = simp (chance-zero m, zero-mul) zero-le
-upper-holds m s g u model uppers (suc n) p z q hp hz hq =
+-- At every entry, for one n after the other.
+pub chances-under : (m : List Rule) (s g : ℕ) (u : Vector) → IsModel s g m → Uppers m s g u → (n : ℕ) → Under s g (65536 ^ n) (2 ^ 20) (chance m n) u
+chances-under m s g u model uppers zero p z q hp hz hq = simp (chance-zero m, zero-mul) zero-le
+chances-under m s g u model uppers (suc n) p z q hp hz hq =
     simp pow-succ'
     (cancel (65536 ^ n) (2 ^ 20) (chance m (suc n) p z q) (f m s (65536 ^ n) (chance m n) p z q) (f m s (2 ^ 20) u p z q) (u p z q)
     (power-positive n) (lit< tt) (chance-step-le-f m s g model n p z q)
-    (f-grows m s g model (65536 ^ n) (2 ^ 20) (chance m n) u (upper-holds m s g u model uppers n) p z q hq) (uppers p z q hp hz hq))
+    (f-grows m s g model (65536 ^ n) (2 ^ 20) (chance m n) u (chances-under m s g u model uppers n) p z q hq) (uppers p z q hp hz hq))
+
+pub upper-holds : (m : List Rule) (s g : ℕ) (u : Vector) → IsModel s g m → Uppers m s g u → UppersHold m s g u
+upper-holds m s g u model uppers p z q hp hz hq n = chances-under m s g u model uppers n p z q hp hz hq

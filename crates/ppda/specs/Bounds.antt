@@ -4,6 +4,7 @@ use Prim.Native.Nat.{ℕ, _+_, _-_, _*_, _^_, _≤_, _<_}
 use mathlib.Core.Bool.{true, false}
 use mathlib.Core.List.{List}
 use mathlib.Core.Path.{_≡_}
+use Rattle.walks.specs.Order.{AtRows, AtEntries}
 use Rattle.ppda.specs.Units.{weightUnit, chanceUnit, mostChance, stepUnit, sumUnit}
 use Rattle.ppda.specs.Rules.{Rule}
 use Rattle.ppda.specs.Chances.{chance, mean}
@@ -38,21 +39,41 @@ pub record Certificate (m : List Rule) (s g : ℕ) (u l : Vector) (r : RowVector
   pub lowers : Lowers m s g u l
   pub means : Means m s g u r
 
--- "Every chance within n steps is at most the upper."
-abbrev pub UpperHolds : List Rule → ℕ → ℕ → Vector → Type 0
-UpperHolds m s g u = (n p z q : ℕ) → p < s → z < g → q < s → chance m n p z q * chanceUnit ≤ u p z q * weightUnit ^ n
+-- ---- what mission point 3 promises, of one entry or row. Its inequalities stand here once; files, registers, printed lines and C hosts cite them.
+
+-- "Every chance within n steps is at most the upper": of the entry (p, z, q), for the upper u.
+abbrev pub UpperHolds : List Rule → ℕ → ℕ → ℕ → ℕ → Type 0
+UpperHolds m p z q u = (n : ℕ) → chance m n p z q * chanceUnit ≤ u * weightUnit ^ n
 
 -- The most steps of a run that k rounds of f from zero hold (document 01, "Mistakes of method"; theorems `scale-is`, `rounds-le-chance`).
 unfoldable pub stepsOf : ℕ → ℕ
 stepsOf k = 2 ^ k - 1
 
--- "Every chance within 2^k − 1 steps is at least the lower less (1 − m)^k times the upper", for the m of the margin a.
-abbrev pub LowerHolds : List Rule → ℕ → ℕ → Vector → Vector → ℕ → Type 0
-LowerHolds m s g u l a =
-    (k p z q : ℕ) → p < s → z < g → q < s
-    → l p z q * weightUnit ^ stepsOf k * whole a ^ k
-    ≤ chance m (stepsOf k) p z q * chanceUnit * whole a ^ k + kept a ^ k * u p z q * weightUnit ^ stepsOf k
+-- "Every chance within 2^k − 1 steps is at least the lower less (1 − m)^k times the upper": of the entry (p, z, q), for the lower l, the
+-- upper u and 1 − m = c/h.
+abbrev pub LowerBy : List Rule → ℕ → ℕ → ℕ → ℕ → ℕ → ℕ → ℕ → Type 0
+LowerBy m p z q l u c h =
+    (k : ℕ)
+    → l * weightUnit ^ stepsOf k * h ^ k
+    ≤ chance m (stepsOf k) p z q * chanceUnit * h ^ k + c ^ k * u * weightUnit ^ stepsOf k
 
--- "Every mean of steps counted to n is at most the figure."
-abbrev pub MeanHolds : List Rule → ℕ → ℕ → RowVector → Type 0
-MeanHolds m s g r = (n p z : ℕ) → p < s → z < g → mean m n p z * stepUnit ≤ r p z * weightUnit ^ n
+-- The same by the margin a that is shown: m is a/2^20, and so document 01 has it. Beside it with an m that is never 0: a/2^20, or 1/2^57 where a
+-- is 0.
+pub record LowerHolds (m : List Rule) (p z q l u a : ℕ) : Type 0 where
+  pub as-shown : LowerBy m p z q l u (chanceUnit - a) chanceUnit
+  pub above-zero : LowerBy m p z q l u (kept a) (whole a)
+
+-- "Every mean of steps counted to n is at most the figure": of the row (p, z), for the figure r.
+abbrev pub MeanHolds : List Rule → ℕ → ℕ → ℕ → Type 0
+MeanHolds m p z r = (n : ℕ) → mean m n p z * stepUnit ≤ r * weightUnit ^ n
+
+-- ---- and of every entry and row of a certificate, with its margin a
+
+abbrev pub UppersHold : List Rule → ℕ → ℕ → Vector → Type 0
+UppersHold m s g u = AtEntries s g (λ p z q. UpperHolds m p z q (u p z q))
+
+abbrev pub LowersHold : List Rule → ℕ → ℕ → Vector → Vector → ℕ → Type 0
+LowersHold m s g u l a = AtEntries s g (λ p z q. LowerHolds m p z q (l p z q) (u p z q) a)
+
+abbrev pub MeansHold : List Rule → ℕ → ℕ → RowVector → Type 0
+MeansHold m s g r = AtRows s g (λ p z. MeanHolds m p z (r p z))

@@ -1,2 +1,3 @@
--- The register: what each filing comes to.
+-- The register: what each filing comes to, and which deliveries are marked.
 pub mod Steps
+pub mod Marks

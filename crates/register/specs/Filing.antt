@@ -1,8 +1,12 @@
 -- The filings, on any value of a register (document 01, "Filing and questions").
 use Prim.Native.Nat.{ℕ}
+use mathlib.Core.Bool.{true}
 use mathlib.Core.List.{List}
+use mathlib.Core.Logic.{_↔_}
+use mathlib.Core.Path.{_≡_}
 use Rattle.outcome.specs.declared.Outcome.{Outcome}
 use Rattle.outcome.specs.declared.Outcome.the-variants.{Accepted, Refused}
+use Rattle.outcome.specs.Tests.{isRefused}
 use Rattle.model.specs.Records.{statesOf, symbolsOf}
 use Rattle.delivery.specs.declared.shape.Shape.{Shape}
 use Rattle.delivery.specs.Shapes.{shapeOf}
@@ -59,3 +63,7 @@ deliveryBy (Refused x i k) r b d = turnedAway r (Refused x i k)
 
 unfoldable pub fileDelivery : Register → List ℕ → Received
 fileDelivery r d = deliveryBy (deliveryOutcome (r .model) d) r (fileOf (r .model)) d
+
+-- An accepted delivery has a mark, known or new, and a refused one has none ("An accepted delivery … is marked").
+abbrev pub Marked : Register → List ℕ → Type 0
+Marked r d = (isRefused (fileDelivery r d .outcome) ≡ true) ↔ (fileDelivery r d .mark ≡ Absent)

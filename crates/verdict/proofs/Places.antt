@@ -1,4 +1,4 @@
--- The place of a refused delivery: where the reason names a record of the model, 11 to 14, or of the delivery, 21 to 27, it is a whole
+-- The number and the place of a refused delivery: where the reason names a record of the model, 11 to 14, or of the delivery, 21 to 27, it is a whole
 -- record of that file. It is below 65,536 in any case: that of a refused model is, and beside a model that passes a delivery has no more
 -- records than the limit.
 use Prim.Native.Nat.{ℕ, _+_, _/_, _≤_, _<_}
@@ -12,7 +12,7 @@ use Rattle.delivery.specs.Format.{recordBytes, mostRecords}
 use Rattle.outcome.specs.declared.Reason.{Reason}
 use Rattle.outcome.specs.declared.Outcome.the-variants.{Refused}
 use Rattle.outcome.specs.Reasons.{numberOf}
-use Rattle.outcome.specs.Tests.{Test}
+use Rattle.outcome.specs.Tests.{Test, first}
 use Rattle.outcome.proofs.Tests.{Refusals, refusals-none, refusals-cons, refusals-append, refusals-each, refusals-weaken}
 use Rattle.walks.proofs.Places.{row-below, entry-below}
 use Rattle.model.specs.Records.{recordsOf, statesOf, symbolsOf}
@@ -39,6 +39,7 @@ use Rattle.verdict.specs.Verdict.{numberTests, shapedTests, deliveryTest
 -- The reason is one of 21 to 27, by its number, and the place is a whole record of the file d.
 record AtRecord (d : List ℕ) (r : Reason) (i : ℕ) : Type 0 where
   number : 21 ≤ numberOf r
+  most : numberOf r ≤ 27
   whole : i < length d / recordBytes
 
 both : {d : List ℕ} {xs ys : List Test} → Refusals (AtRecord d) xs → Refusals (AtRecord d) ys → Refusals (AtRecord d) (xs ++ ys)
@@ -48,12 +49,12 @@ only : {d : List ℕ} {ts : List Test} (t : Bool) → (t ≡ true → Refusals (
 only true f = f refl
 only false f = refusals-none
 
-one : {d : List ℕ} {t : Test} → 21 ≤ numberOf (t .reason) → t .place < length d / recordBytes → Refusals (AtRecord d) (t ∷ [])
-one n l = refusals-cons (record { number = n; whole = l }) (λ e. refusals-none)
+one : {d : List ℕ} {t : Test} → 21 ≤ numberOf (t .reason) → numberOf (t .reason) ≤ 27 → t .place < length d / recordBytes → Refusals (AtRecord d) (t ∷ [])
+one n m l = refusals-cons (record { number = n; most = m; whole = l }) (λ e. refusals-none)
 
 at-record : (d : List ℕ) {i : ℕ} (k : Block) (p z q : ℕ) → i < length d / recordBytes → Refusals (AtRecord d) (recordTests d i k p z q)
 unfolding recordTests
-at-record d k p z q l = refusals-cons (record { number = omega arith; whole = l }) (λ e. one (omega arith) l)
+at-record d k p z q l = refusals-cons (record { number = omega arith; most = omega arith; whole = l }) (λ e. one (omega arith) (omega arith) l)
 
 module _ (s g : ℕ) (d : List ℕ) (h : Shape) (of : shapeOf s g d ≡ Of h) where
   -- Tests at every record of a block.
@@ -89,14 +90,27 @@ module _ (s g : ℕ) (d : List ℕ) (h : Shape) (of : shapeOf s g d ≡ Of h) wh
   number-places : (b : List ℕ) → Refusals (AtRecord d) (numberTests b s g h d)
   unfolding numberTests deadTests deadTest upperTests upperTest belowTests belowTest lowerTests lowerTest meanTests meanTest
   number-places b =
-      both (at-uppers (λ p z q l. one (omega arith) (omega arith)))
-      (both (at-lowers (λ p z q l. one (omega arith) l))
-      (both (at-uppers (λ p z q l. one (omega arith) l))
-      (both (at-lowers (λ p z q l. one (omega arith) l))
-      (both (at-lowers (λ p z q l. one (omega arith) l))
-      (at-means (λ p z l. one (omega arith) l))))))
+      both (at-uppers (λ p z q l. one (omega arith) (omega arith) (omega arith)))
+      (both (at-lowers (λ p z q l. one (omega arith) (omega arith) l))
+      (both (at-uppers (λ p z q l. one (omega arith) (omega arith) l))
+      (both (at-lowers (λ p z q l. one (omega arith) (omega arith) l))
+      (both (at-lowers (λ p z q l. one (omega arith) (omega arith) l))
+      (at-means (λ p z l. one (omega arith) (omega arith) l))))))
 
 -- ---- the verdict
+
+-- A delivery's numbers are 20 to 27.
+shaped-numbers : (b d : List ℕ) (s g : ℕ) (t : Shaped) → shapeOf s g d ≡ t
+    → Refusals (λ r i. (20 ≤ numberOf r) × (numberOf r ≤ 27)) (shapedTests b s g t d)
+unfolding shapedTests
+shaped-numbers b d s g Unknown of = refusals-cons (omega arith, omega arith) (λ e. refusals-none)
+shaped-numbers b d s g (Of h) of =
+    refusals-weaken (λ r i x. (omega (arith, x .number), x .most)) (both (layout-places s g d h of) (number-places s g d h of b))
+
+pub delivery-number : (b d : List ℕ) (r : Reason) (i : ℕ) (k : ℤ) → first (deliveryTests b d) ≡ Refused r i k
+    → (20 ≤ numberOf r) × (numberOf r ≤ 27)
+unfolding deliveryTests
+delivery-number b d r i k e = shaped-numbers b d (statesOf b) (symbolsOf b) _ refl .refused r i k e
 
 -- What holds of a refusal's reason and place.
 record Placed (b d : List ℕ) (r : Reason) (i : ℕ) : Type 0 where

@@ -1,4 +1,4 @@
--- The place of a refused model file: where the reason names a record, 11 to 14, it is a whole record of the file. It is below 65,536 in
+-- The number and the place of a refused model file: where the reason names a record, 11 to 14, it is a whole record of the file. It is below 65,536 in
 -- any case: a file that is too long is refused at place 0, and any other has at most 1,024 records and, where they are right, rows within their limit.
 use Prim.Native.Nat.{ℕ, _%_, _≤_, _<_}
 use native.Mathlib.Omega.{arith}
@@ -30,28 +30,29 @@ few-records b e =
 -- What holds of a refusal's reason and place.
 pub record InModel (b : List ℕ) (r : Reason) (i : ℕ) : Type 0 where
   pub small : i < 65536
+  pub least : 10 ≤ numberOf r
   pub number : numberOf r ≤ 15
   pub whole : 11 ≤ numberOf r → numberOf r ≤ 14 → i < recordsOf b
 
-at-record : {b : List ℕ} {r : Reason} {i : ℕ} → numberOf r ≤ 15 → recordsOf b ≤ mostRecords → i < recordsOf b → InModel b r i
-at-record n few l = record { small = omega arith; number = n; whole = λ from to. l }
+at-record : {b : List ℕ} {r : Reason} {i : ℕ} → 10 ≤ numberOf r → numberOf r ≤ 15 → recordsOf b ≤ mostRecords → i < recordsOf b → InModel b r i
+at-record m n few l = record { small = omega arith; least = m; number = n; whole = λ from to. l }
 
 record-place : (b : List ℕ) (i : ℕ) → recordsOf b ≤ mostRecords → i < recordsOf b → Refusals (InModel b) (recordTests b i)
 unfolding recordTests
 record-place b i few l =
-    refusals-cons (at-record (omega arith) few l) (λ e.
-    refusals-cons (at-record (omega arith) few l) (λ e.
-    refusals-cons (at-record (omega arith) few l) (λ e.
-    refusals-cons (at-record (omega arith) few l) (λ e. refusals-none))))
+    refusals-cons (at-record (omega arith) (omega arith) few l) (λ e.
+    refusals-cons (at-record (omega arith) (omega arith) few l) (λ e.
+    refusals-cons (at-record (omega arith) (omega arith) few l) (λ e.
+    refusals-cons (at-record (omega arith) (omega arith) few l) (λ e. refusals-none))))
 
 row-place : (b : List ℕ) (k : ℕ) → k < 65536 → Refusals (InModel b) (rowTests b k)
 unfolding rowTests
-row-place b k h = refusals-cons (record { small = h; number = omega arith; whole = λ from to. absurd (omega arith) }) (λ e. refusals-none)
+row-place b k h = refusals-cons (record { small = h; least = omega arith; number = omega arith; whole = λ from to. absurd (omega arith) }) (λ e. refusals-none)
 
 pub model-places : (b : List ℕ) → Refusals (InModel b) (modelTests b)
 unfolding modelTests rowsTests
 model-places b =
-    refusals-cons (record { small = omega arith; number = omega arith; whole = λ from to. absurd (omega arith) }) (λ e.
+    refusals-cons (record { small = omega arith; least = omega arith; number = omega arith; whole = λ from to. absurd (omega arith) }) (λ e.
     let whole : wholeRecords (length b) ≡ true = not-false _ e in
     refusals-append (refusals-each (recordsOf b) (λ i l. record-place b i (few-records b whole) l))
     (λ passed. refusals-each (rowsIn (statesOf b) (symbolsOf b))
@@ -60,6 +61,11 @@ model-places b =
 pub model-place : (b : List ℕ) (r : Reason) (i : ℕ) (k : ℤ) → modelVerdict b ≡ Refused r i k → i < 65536
 unfolding modelVerdict
 model-place b r i k e = model-places b .refused r i k e .small
+
+-- The number is one of 10 to 15.
+pub model-number : (b : List ℕ) (r : Reason) (i : ℕ) (k : ℤ) → modelVerdict b ≡ Refused r i k → (10 ≤ numberOf r) × (numberOf r ≤ 15)
+unfolding modelVerdict
+model-number b r i k e = let x = model-places b .refused r i k e in (x .least, x .number)
 
 -- A place that is a record is a whole one.
 pub model-record : (b : List ℕ) (r : Reason) (i : ℕ) (k : ℤ) → modelVerdict b ≡ Refused r i k → 11 ≤ numberOf r → numberOf r ≤ 14
