@@ -1,2 +1,3 @@
--- The calls for C hosts.
+-- The calls for C hosts, and what a host learns from a code of 0.
 pub mod Codes
+pub mod Host

@@ -3,5 +3,7 @@ pub mod Refusals
 pub mod Pairs
 pub mod Plain
 pub mod Replies
+pub mod Named
+pub mod Shown
 pub mod Mission
 pub mod Edges

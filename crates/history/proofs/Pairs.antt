@@ -113,6 +113,9 @@ pub model-right : (b : List ℕ) (y : Option (List ℕ)) → Right (some b) y �
 model-right b none right = right
 model-right b (some d) right = model-accepted b .1 (delivery-accepted b d .0 right .model)
 
+pub model-held-right : {m : Option (List ℕ)} {b : List ℕ} (y : Option (List ℕ)) → Right m y → m ≡ some b → modelVerdict b ≡ Accepted
+model-held-right {b = b} y right held = model-right b y (rw held at right)
+
 model-of-pair : (b : List ℕ) (y : Option (List ℕ)) → holding (some b) y .model ≡ modelHeld b
 unfolding withModel
 model-of-pair b none = refl

@@ -1,20 +1,16 @@
 -- Mission point 3 for what the questions answer after any list of calls: a number that is answered is one of files that are held and
 -- accepted, and is true of the runs of the held model.
-use Prim.Native.Nat.{ℕ, _*_, _^_, _≤_, _<_}
+use Prim.Native.Nat.{ℕ, _≤_, _<_}
 use native.Mathlib.Omega.{arith}
 use mathlib.Core.Bool.{Bool, true, false, cond, _&&_}
 use mathlib.Core.List.{List}
-use mathlib.Core.Logic.{_⊎_, inl, inr}
 use mathlib.Core.Option.{Option, none, some}
 use mathlib.Core.Path.{_≡_, refl, sym, _∙_}
 use lib.Dec.{ltb}
-use lib.IntN.{ℤ}
 use borrow.Author.Tests.{lt-ltb}
 use Rattle.outcome.specs.declared.Outcome.the-variants.{Accepted}
 use Rattle.walks.proofs.Exactly.{lt-exactly, both}
-use Rattle.ppda.specs.Units.{weightUnit, chanceUnit, stepUnit}
-use Rattle.ppda.specs.Bounds.{stepsOf}
-use Rattle.ppda.specs.Chances.{chance, mean}
+use Rattle.ppda.specs.Bounds.{UpperHolds, MeanHolds}
 use Rattle.ppda.proofs.Marks.{alive-is-bit}
 use Rattle.model.specs.Records.{statesOf, symbolsOf}
 use Rattle.model.specs.Rules.{rulesOf}
@@ -28,12 +24,12 @@ use Rattle.verdict.specs.Marks.{liveMark}
 use Rattle.verdict.proofs.Marks.{live-marks-by-runs}
 use Rattle.verdict.specs.Verdict.{verdict}
 use Rattle.certificate.specs.Margin.{marginOf}
-use Rattle.certificate.proofs.Holds.{upper-of-files, lower-of-shape, lower-as-shown-of-shape, mean-of-files}
-use Rattle.calls.specs.Calls.{Call, upper, lower, meanSteps, margin, live, Reply, value, refused, refusal}
+use Rattle.certificate.proofs.Holds.{accepted-true, true-of-shape}
+use Rattle.calls.specs.Calls.{Call, upper, lower, meanSteps, margin, live, Reply, value, refusal}
 use Rattle.history.specs.Plain.{lastModel, lastDelivery, ofModel, ofDelivery, ofBlock, atEntry, atRow, plainReply}
 use Rattle.history.specs.Run.{replyTo, history}
-use Rattle.history.specs.Mission.{Holds, UpperShown, LowerHeld, LowerShown, MeanShown, LiveShown, LiveRefused}
-use Rattle.history.proofs.Pairs.{lowerReply, meanReply, Right, model-right}
+use Rattle.history.specs.Mission.{Holds, UpperShown, LowerHeld, LowerShown, MeanShown, LiveShown}
+use Rattle.history.proofs.Pairs.{lowerReply, meanReply, Right, model-held-right}
 use Rattle.history.proofs.Plain.{right-pair, as-plain-pair}
 
 -- ---- what a number that is answered says of the pair
@@ -93,12 +89,11 @@ files-asked cs h e =
 -- ---- point 3, for the files b and d that are held
 
 module _ {cs : List Call} {b d : List ℕ} (files : Files cs b d) where
-  upper-of : (p z q u : ℕ) → atEntry b p z q (value (uppersOf (statesOf b) (symbolsOf b) d p z q)) ≡ value u
-      → (n : ℕ) → chance (rulesOf b) n p z q * chanceUnit ≤ u * weightUnit ^ n
-  upper-of p z q u e n =
+  upper-of : (p z q u : ℕ) → atEntry b p z q (value (uppersOf (statesOf b) (symbolsOf b) d p z q)) ≡ value u → UpperHolds (rulesOf b) p z q u
+  upper-of p z q u e =
       let (hp, hz, hq, reply) = entry-asked (statesOf b) (symbolsOf b) p z q (value (uppersOf (statesOf b) (symbolsOf b) d p z q)) e in
       let same : uppersOf (statesOf b) (symbolsOf b) d p z q ≡ u = cc in
-      rw same at (upper-of-files b d (files .accepted) n p z q hp hz hq)
+      rw same at (accepted-true b d (files .accepted) .bounds .uppers p z q hp hz hq)
 
   upper-replied : (p z q : ℕ) → p < statesOf b → z < symbolsOf b → q < statesOf b
       → replyTo cs (upper p z q) ≡ value (uppersOf (statesOf b) (symbolsOf b) d p z q)
@@ -112,7 +107,6 @@ module _ {cs : List Call} {b d : List ℕ} (files : Files cs b d) where
   margin-replied shape has = as-plain-pair cs margin ∙ rw (files .model, files .delivery, shape, has)
 
   lower-of : (p z q l : ℕ) → atEntry b p z q (lowerReply b d p z q) ≡ value l → LowerHeld cs p z q l
-  unfolding stepsOf
   lower-of p z q l e =
       let (hp, hz, hq, inner) = entry-asked (statesOf b) (symbolsOf b) p z q (lowerReply b d p z q) e in
       let (h, shape, has, reply) = block-asked hasLowers (shapeOf (statesOf b) (symbolsOf b) d) _ inner in
@@ -124,16 +118,15 @@ module _ {cs : List Call} {b d : List ℕ} (files : Files cs b d) where
         held = files .model;
         upper-asked = upper-replied p z q hp hz hq;
         margin-asked = margin-replied shape has;
-        holds = λ k. rw same at (lower-as-shown-of-shape b d h (files .accepted) shape has k p z q hp hz hq);
-        holds-above-zero = λ k. rw same at (lower-of-shape b d h (files .accepted) shape has k p z q hp hz hq);
+        holds = rw same at (true-of-shape b d h (files .accepted) shape .lowers has p z q hp hz hq);
       }
 
-  mean-of : (p z r : ℕ) → atRow b p z (meanReply b d p z) ≡ value r → (n : ℕ) → mean (rulesOf b) n p z * stepUnit ≤ r * weightUnit ^ n
-  mean-of p z r e n =
+  mean-of : (p z r : ℕ) → atRow b p z (meanReply b d p z) ≡ value r → MeanHolds (rulesOf b) p z r
+  mean-of p z r e =
       let (hp, hz, inner) = row-asked (statesOf b) (symbolsOf b) p z (meanReply b d p z) e in
       let (h, shape, has, reply) = block-asked hasMeans (shapeOf (statesOf b) (symbolsOf b) d) _ inner in
       let same : meansOf (statesOf b) (symbolsOf b) h d p z ≡ r = cc in
-      rw same at (mean-of-files b d h (files .accepted) shape has n p z hp hz)
+      rw same at (true-of-shape b d h (files .accepted) shape .means has p z hp hz)
 
 -- ---- point 3, after any list of calls
 
@@ -156,9 +149,6 @@ mean-shown cs p z r e =
     let (b, d, files, reply) = files-asked cs (λ b d. atRow b p z (meanReply b d p z)) (sym (as-plain-pair cs (meanSteps p z)) ∙ e) in
     (b, files .model, mean-of files p z r reply)
 
-model-held-right : {m : Option (List ℕ)} {b : List ℕ} (y : Option (List ℕ)) → Right m y → m ≡ some b → modelVerdict b ≡ Accepted
-model-held-right {b = b} y right held = model-right b y (rw held at right)
-
 live-bit : (b : List ℕ) (p z q : ℕ) → modelVerdict b ≡ Accepted → liveMark b p z q ≤ 1
 unfolding liveMark
 live-bit b p z q is = rw is (alive-is-bit (rulesOf b) (statesOf b) (symbolsOf b) p z q)
@@ -172,19 +162,3 @@ live-shown cs p z q a e =
     let is = model-held-right (lastDelivery (history cs)) (right-pair cs) held in
     let same : liveMark b p z q ≡ a = cc in
     (b, held, rw same at (live-marks-by-runs b is p z q hp hz hq), rw same at (live-bit b p z q is))
-
--- A number, where a model is held and a test is passed; else 40 or 44.
-forty-or-44 : (m : Option (List ℕ)) (t : List ℕ → Bool) (v : List ℕ → ℕ) {n i : ℕ} {k : ℤ}
-    → ofModel m (λ b. cond (t b) (value (v b)) (refusal 44)) ≡ refused n i k → (n ≡ 40) ⊎ (n ≡ 44)
-forty-or-44 none t v e = inl cc
-forty-or-44 (some b) t v {n} {i} {k} e = go (t b) e
-  where
-    go : (a : Bool) → cond a (value (v b)) (refusal 44) ≡ refused n i k → (n ≡ 40) ⊎ (n ≡ 44)
-    go true e = let z : _≡_ {A = ℕ} 0 1 = cc in absurd (omega arith)
-    go false e = inr cc
-
-pub live-refused : (cs : List Call) → LiveRefused cs
-unfolding plainReply
-live-refused cs p z q number place shortfall e =
-    forty-or-44 (lastModel (history cs)) (λ b. (ltb p (statesOf b) && ltb z (symbolsOf b)) && ltb q (statesOf b)) (λ b. liveMark b p z q)
-    (sym (as-plain-pair cs (live p z q)) ∙ e)

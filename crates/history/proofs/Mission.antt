@@ -1,0 +1,29 @@
+-- The mission, for every list of calls: one theorem, which gathers those of the points.
+use mathlib.Core.List.{List}
+use Rattle.register.proofs.Marks.{marked}
+use Rattle.calls.specs.Calls.{Call}
+use Rattle.history.specs.Run.{registerAfter}
+use Rattle.history.specs.Mission.{Mission}
+use Rattle.history.proofs.Refusals.{refused-keeps}
+use Rattle.history.proofs.Plain.{holds-pair, as-plain-pair, model-taken, delivery-taken}
+use Rattle.history.proofs.Replies.{replies-as-plain}
+use Rattle.history.proofs.Named.{number-listed, model-named, delivery-named}
+use Rattle.history.proofs.Shown.{upper-shown, lower-shown, mean-shown, live-shown}
+
+pub mission : (cs : List Call) → Mission cs
+mission cs = record {
+  numbers-listed = number-listed cs;
+  refusals-keep = refused-keeps (registerAfter cs);
+  models-taken = model-taken cs;
+  deliveries-taken = delivery-taken cs;
+  deliveries-marked = marked (registerAfter cs);
+  models-named = model-named cs;
+  deliveries-named = delivery-named cs;
+  pair-held = holds-pair cs;
+  pair-shown = as-plain-pair cs;
+  pair-shown-in-time = replies-as-plain cs;
+  uppers-true = upper-shown cs;
+  lowers-true = lower-shown cs;
+  means-true = mean-shown cs;
+  live-marks-true = live-shown cs;
+}
