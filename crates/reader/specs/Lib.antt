@@ -1,0 +1,2 @@
+-- What a reader of a printout learns.
+pub mod Reader

@@ -1,0 +1,1 @@
+// No code: what a reader of a printout learns of the runs (specs/ and proofs/).
