@@ -14,7 +14,7 @@ use Rattle.walks.proofs.Places.{row-of}
 use Rattle.outcome.specs.declared.Outcome.{Outcome}
 use Rattle.outcome.specs.declared.Outcome.the-variants.{Accepted, Refused}
 use Rattle.outcome.specs.Reasons.{numberOf}
-use Rattle.ppda.specs.Bounds.{LowerHolds, MeanHolds}
+use Rattle.ppda.specs.Bounds.{UpperHolds, LowerHolds, MeanHolds}
 use Rattle.ppda.proofs.Margin.{margin-le-top}
 use Rattle.model.specs.Records.{statesOf, symbolsOf, recordsOf}
 use Rattle.model.specs.Rules.{rulesOf}
@@ -149,7 +149,7 @@ module _ (b d : List ℕ) where
         → ((m : List ℕ) → LineIn b d (marginWord ∷ m ∷ []) → m ≡ shown (asked margin)) → ChanceRead b d wp wz wq wl wu
     chance-of p z q wp wz wq wl wu hp hz hq ep ez eq el eu em =
         record {
-          upper = rw (np, nz, nq, nu) (holds .uppers p z q hp hz hq);
+          upper = upper-read;
           lower = λ written m i. by-shape (hasLowers (right .shaped)) refl written m (em m i);
         }
       where
@@ -167,6 +167,9 @@ module _ (b d : List ℕ) where
 
         nu : numberIn wu ≡ uppersOf (statesOf b) (symbolsOf b) d p z q
         nu = read-back wu _ (eu ∙ ap shown (upper-is p z q hp hz hq)) (upper-small p z q hp hz hq)
+
+        upper-read : UpperHolds (rulesOf b) (numberIn wp) (numberIn wz) (numberIn wq) (numberIn wu)
+        upper-read = rw (np, nz, nq, nu) (holds .uppers p z q hp hz hq)
 
         by-shape : (t : Bool) → hasLowers (right .shaped) ≡ t → (wl ≡ 45 ∷ [] → ⊥) → (m : List ℕ) → m ≡ shown (asked margin)
             → LowerHolds (rulesOf b) (numberIn wp) (numberIn wz) (numberIn wq) (numberIn wl) (numberIn wu) (numberIn m)
