@@ -4,7 +4,7 @@ A word is checked by its form: a path, a must-fail edit, a path of code (`a::b`)
 definition or type (with a capital inside or first). A word of no such form, such as a value or a plain word, is checked where the document says which file or
 crate it stands in: `name` (`file`), `name` of `file`, (`name`, `file`), a list after a folder, a column "stands in" or "its calls". Of a command line only
 its paths are checked. What describes the past (CHANGELOG.md, docs/changes/) is not checked: names there may have gone. The table of crates has each crate
-of crates.txt, in its order.
+of crates.txt, in its order, and every rule that docs/RULES.md names has one line there.
 """
 import re
 import sys
@@ -29,6 +29,7 @@ THEOREM = re.compile(r"[a-z][a-z0-9]*(-[a-z0-9]+)+")
 CODE = re.compile(r"[a-z][a-z0-9]*(_[a-z0-9]+)+|[A-Z][A-Z0-9_]+")
 DEFINITION = re.compile(r"[a-z][a-z0-9]*[A-Z]\w*|[A-Z]\w*[a-z]\w*")
 NAME = re.compile(r"[\w-]+")
+RULE = re.compile(r"\b[A-Z]\d+\b")
 
 STATED = re.compile(r"^ *(?:abbrev |unfoldable )?(?:pub )?(?:record |data )?([^\W\d][\w-]*)(?: [({].*)? :", re.M)
 DECLARED = re.compile(r"\b(?:fn|struct|enum|const|mod|type) (\w+)|^ +([A-Z]\w*)(?:,| \{|\(.*\),)$", re.M)
@@ -263,10 +264,16 @@ def wrongs(document):
     return lines, tabled
 
 
+def rules_wrong(text):
+    """The rules that a page of rules names without a line for each, or with two."""
+    told = re.findall(r"^\| ([A-Z]\d+)\*? \|", text, re.M)
+    return ["docs/RULES.md: %s has %d lines" % (rule, told.count(rule)) for rule in dict.fromkeys(RULE.findall(text)) if told.count(rule) != 1]
+
+
 def main():
     documents = [ROOT / "README.md", ROOT / "CONTRIBUTING.md", *sorted((ROOT / "docs").glob("*.md"))]
     told = [wrongs(document) for document in documents]
-    lines = [line for wrong, _ in told for line in wrong]
+    lines = [line for wrong, _ in told for line in wrong] + rules_wrong((ROOT / "docs/RULES.md").read_text(encoding="utf-8"))
     if [crate for _, tabled in told for crate in tabled] != list(CRATES):
         lines.append("the table of crates is not that of crates.txt")
     if lines:
