@@ -23,14 +23,14 @@ use Rattle.model.specs.Rules.{rulesOf}
 use Rattle.delivery.specs.Records.{valueAt}
 use Rattle.walks.specs.Order.{entriesIn, entryAt, rowAt, eachEntry, eachRow}
 use Rattle.delivery.specs.Numbers.{uppersOf, rowsOfBlock}
-use Rattle.delivery.specs.Blocks.{Within}
+use Rattle.delivery.specs.Contracts.{Within}
 use Rattle.walks.proofs.Orders.{entries-by-number}
-use Rattle.live.specs.Exits.{exitMarks}
+use Rattle.live.specs.Contracts.{exitMarks}
 use Rattle.walks.proofs.Places.{entry-below}
 use Rattle.ppda.proofs.Vectors.{f-same, mean-side-same}
 use Rattle.inequalities.specs.declared.sides.Side.the-variants.{Upper, StrictUpper, Lower}
 use Rattle.inequalities.specs.Inequalities.{deadTest, upperTest, belowTest, lowerTest, meanTest, deadTests, upperTests, belowTests, lowerTests, meanTests}
-use Rattle.inequalities.specs.Walks.{deadAt, belowAt, sideTest, sideFrom, sideAt, meanAt}
+use Rattle.inequalities.specs.Contracts.{deadAt, belowAt, sideTest, sideFrom, sideAt, meanAt}
 
 -- ---- the same numbers, the same tests
 

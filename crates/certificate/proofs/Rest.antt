@@ -23,12 +23,12 @@ use Rattle.delivery.specs.Shapes.{hasLowers, hasMeans, meansFrom, recordsIn, sh
 use Rattle.walks.specs.Order.{entriesIn, rowsIn, entryAt, rowAt, AtEntries, AtRows}
 use Rattle.delivery.specs.Numbers.{uppersOf, lowersOf, meansOf, rowsOfBlock}
 use Rattle.layout.specs.Layout.{layoutTests}
-use Rattle.delivery.specs.Blocks.{Within}
+use Rattle.delivery.specs.Contracts.{Within}
 use Rattle.delivery.proofs.Shapes.{shape-long, uppers-fit, lowers-fit}
 use Rattle.delivery.proofs.Values.{rest-value}
 use Rattle.inequalities.specs.Inequalities.{deadTests}
 use Rattle.verdict.specs.Verdict.{numberTests}
-use Rattle.certificate.specs.Rest.{RestRead, meansBlock, restMeans, restTests}
+use Rattle.certificate.specs.Contracts.{RestRead, meansBlock, restMeans, restTests}
 use Rattle.verdict.proofs.Accepted.{layout-right}
 use Rattle.certificate.proofs.Blocks.{itself, dead-same, below-same, upper-same, lower-same, mean-same, ends-within, part-within}
 

@@ -15,11 +15,11 @@ use Rattle.delivery.specs.declared.shape.Shape.{Shape}
 use Rattle.delivery.specs.declared.shape.Shaped.the-variants.{Of}
 use Rattle.delivery.specs.Shapes.{hasLowers, shapeOf}
 use Rattle.delivery.specs.Numbers.{uppersOf}
-use Rattle.live.specs.Exits.{exitMarks}
+use Rattle.live.specs.Contracts.{exitMarks}
 use Rattle.model.specs.Accepted.{Sized}
 use Rattle.model.proofs.Accepted.{sized-model}
 use Rattle.ppda.proofs.Vectors.{f-same}
-use Rattle.shares.specs.Shares.{Strict, leastShare}
+use Rattle.shares.specs.Contracts.{Strict, leastShare}
 use Rattle.verdict.specs.Verdict.{verdict}
 use Rattle.verdict.specs.Accepted.{LowersRight}
 use Rattle.verdict.proofs.Accepted.{live-exactly, delivery-accepted, shaped-as}

@@ -30,18 +30,18 @@ use Rattle.delivery.specs.Shapes.{hasLowers, hasMeans, meansFrom, shapeOf}
 use Rattle.walks.specs.Order.{entriesIn, rowsIn, eachEntry, eachRow}
 use Rattle.delivery.specs.Numbers.{uppersOf}
 use Rattle.layout.specs.Layout.{layoutTests}
-use Rattle.delivery.specs.Blocks.{Within}
-use Rattle.live.specs.Exits.{ExitsOf, exitMarks}
+use Rattle.delivery.specs.Contracts.{Within}
+use Rattle.live.specs.Contracts.{ExitsOf, exitMarks}
 use Rattle.model.specs.Accepted.{Sized}
 use Rattle.model.proofs.Accepted.{sized-model}
 use Rattle.inequalities.specs.Inequalities.{deadTests, belowTests, lowerTests}
 use Rattle.inequalities.specs.declared.sides.Side.the-variants.{Upper, StrictUpper, Lower}
-use Rattle.inequalities.specs.Walks.{deadAt, belowAt, sideAt, meanAt}
-use Rattle.shares.specs.Shares.{Strict, leastShare}
+use Rattle.inequalities.specs.Contracts.{deadAt, belowAt, sideAt, meanAt}
+use Rattle.shares.specs.Contracts.{Strict, leastShare}
 use Rattle.certificate.specs.declared.answer.Margin.the-variants.{Shown, Absent}
 use Rattle.verdict.specs.Verdict.{numberTests, shapedTests, deliveryTests, verdict}
 use Rattle.verdict.specs.Accepted.{UppersRight}
-use Rattle.certificate.specs.Rest.{RestRead, meansBlock, restMeans, restTests, deadPart, upperPart, lowerPart}
+use Rattle.certificate.specs.Contracts.{RestRead, meansBlock, restMeans, restTests, deadPart, upperPart, lowerPart}
 use Rattle.certificate.specs.Margin.{marginOf, shownMargin}
 use Rattle.certificate.specs.Shown.{shapeIn}
 use Rattle.verdict.proofs.Accepted.{delivery-accepted}

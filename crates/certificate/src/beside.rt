@@ -15,7 +15,7 @@ ghost use Rattle.outcome.specs.declared.Outcome.the-variants.{Accepted};
 ghost use Rattle.wellformed.specs.Verdict.{modelVerdict};
 ghost use Rattle.delivery.specs.declared.shape.Shaped.the-variants.{Of};
 ghost use Rattle.verdict.specs.Verdict.{shapedTests, verdict};
-ghost use Rattle.certificate.specs.Rest.{SizedFile};
+ghost use Rattle.certificate.specs.Contracts.{SizedFile};
 
 // The tests 21 to 27 of a delivery whose shape is known.
 fn check_shaped(model: &[u8], delivery: &[u8], n: Sizes, shape: Shape) -> Outcome

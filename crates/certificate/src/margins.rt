@@ -12,7 +12,7 @@ ghost use mathlib.Core.Path.{_≡_};
 ghost use mathlib.Core.Bool.{true};
 ghost use Rattle.delivery.specs.Shapes.{hasLowers};
 ghost use Rattle.certificate.specs.Margin.{marginOf};
-ghost use Rattle.certificate.specs.Rest.{AcceptedFile};
+ghost use Rattle.certificate.specs.Contracts.{AcceptedFile};
 
 // The margin of an accepted delivery with lowers.
 pub fn margin_with_lowers(model: &[u8], delivery: &[u8], n: Sizes, shape: Shape) -> u64

@@ -18,10 +18,10 @@ use rows::find_starts;
 ghost use mathlib.Core.Path.{_≡_};
 ghost use Rattle.outcome.specs.Tests.{first};
 ghost use Rattle.model.specs.Sizes.{Fits};
-ghost use Rattle.delivery.specs.Blocks.{Chances};
-ghost use Rattle.rows.specs.Starts.{Indexed};
+ghost use Rattle.delivery.specs.Contracts.{Chances};
+ghost use Rattle.rows.specs.Contracts.{Indexed};
 ghost use Rattle.verdict.specs.Verdict.{numberTests};
-ghost use Rattle.certificate.specs.Rest.{LaidOut, LowersRead, RestOf, deadPart, upperPart, lowerPart, meanPart, restPart};
+ghost use Rattle.certificate.specs.Contracts.{LaidOut, LowersRead, RestOf, deadPart, upperPart, lowerPart, meanPart, restPart};
 
 // 23 in the lowers, which the rest of the file starts with where they stand.
 fn dead_lowers(rest: &[u8], live: &[u8; MOST_ROWS], n: Sizes, lowers: bool) -> Outcome

@@ -12,8 +12,8 @@ use Rattle.ppda.specs.Rules.{Push, nothing, one, two}
 use Rattle.ppda.specs.Equations.{through, stepsThrough}
 use Rattle.model.specs.Format.{mostStates}
 use Rattle.delivery.specs.Numbers.{uppersOf, rowsOfBlock}
-use Rattle.delivery.specs.Blocks.{Within}
-use Rattle.equations.specs.Products.{product, stepsProduct}
+use Rattle.delivery.specs.Contracts.{Within}
+use Rattle.equations.specs.Contracts.{product, stepsProduct}
 use Rattle.rows.proofs.Sums.{sum-most}
 
 bit-most : (t : Bool) → bit t ≤ 1

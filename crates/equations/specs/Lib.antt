@@ -1,2 +1,2 @@
--- Names for what the functions work out from a file's bytes. They serve the contracts of the code alone.
-pub mod Products
+-- Names for what the functions work out from a file's bytes. `Contracts` serves the contracts of the code alone.
+pub mod Contracts

@@ -17,9 +17,9 @@ ghost use Rattle.model.specs.Records.{recordsOf};
 ghost use Rattle.model.specs.Accepted.{Sized};
 ghost use Rattle.model.specs.Sizes.{Fits};
 ghost use Rattle.delivery.specs.Numbers.{uppersOf};
-ghost use Rattle.delivery.specs.Blocks.{HasRecords, Chances};
-ghost use Rattle.rows.specs.Starts.{Indexed};
-ghost use Rattle.equations.specs.Products.{product, throughOf, fOf};
+ghost use Rattle.delivery.specs.Contracts.{HasRecords, Chances};
+ghost use Rattle.rows.specs.Contracts.{Indexed};
+ghost use Rattle.equations.specs.Contracts.{product, throughOf, fOf};
 
 // The number of entry (p, z, q).
 pub(crate) fn value(block: &[u8], n: Sizes, p: usize, z: usize, q: usize) -> u64

@@ -20,9 +20,9 @@ ghost use Rattle.model.specs.Records.{recordsOf};
 ghost use Rattle.model.specs.Accepted.{Sized};
 ghost use Rattle.model.specs.Sizes.{Fits};
 ghost use Rattle.delivery.specs.Numbers.{rowsOfBlock};
-ghost use Rattle.delivery.specs.Blocks.{HasRecords, Chances, MeanSteps};
-ghost use Rattle.rows.specs.Starts.{Indexed};
-ghost use Rattle.equations.specs.Products.{stepsProduct, stepsAdded, meanSideOf};
+ghost use Rattle.delivery.specs.Contracts.{HasRecords, Chances, MeanSteps};
+ghost use Rattle.rows.specs.Contracts.{Indexed};
+ghost use Rattle.equations.specs.Contracts.{stepsProduct, stepsAdded, meanSideOf};
 
 // One step, in 1/2^44 of a step: what a rule's move costs.
 const STEP: u64 = WEIGHT_UNIT * CHANCE_UNIT * STEP_UNIT;

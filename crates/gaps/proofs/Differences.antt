@@ -19,8 +19,9 @@ use Rattle.delivery.specs.declared.shape.Shaped.the-variants.{Of}
 use Rattle.delivery.specs.Shapes.{shapeOf}
 use Rattle.delivery.specs.Numbers.{uppersOf}
 use Rattle.delivery.proofs.Shapes.{uppers-fit}
-use Rattle.rows.specs.Starts.{Indexed}
-use Rattle.shares.specs.Shares.{gapAt, Standing}
+use Rattle.rows.specs.Contracts.{Indexed}
+use Rattle.shares.specs.Gap.{gapAt}
+use Rattle.shares.specs.Contracts.{Standing}
 use Rattle.verdict.specs.Accepted.{UppersRight}
 use Rattle.verdict.specs.Verdict.{verdict}
 use Rattle.verdict.proofs.Accepted.{delivery-accepted}

@@ -4,7 +4,7 @@ use mathlib.Core.List.{List}
 use Rattle.ppda.specs.Equations.{Vector, entries, Same}
 use Rattle.model.specs.declared.sizes.Sizes.{Sizes}
 use Rattle.model.specs.Records.{statesOf, symbolsOf}
-use Rattle.shares.specs.Shares.{gapAt}
+use Rattle.shares.specs.Gap.{gapAt}
 
 -- u − f(u) in 1/2^56, for the uppers u of the delivery d for the model b.
 abbrev pub gapOf : List ℕ → List ℕ → Vector

@@ -10,7 +10,7 @@ use shares::gap::gap;
 ghost use mathlib.Core.Path.{_≡_};
 ghost use Rattle.outcome.specs.declared.Outcome.the-variants.{Accepted};
 ghost use Rattle.model.specs.Sizes.{sizesOf};
-ghost use Rattle.shares.specs.Shares.{Standing};
+ghost use Rattle.shares.specs.Contracts.{Standing};
 ghost use Rattle.verdict.specs.Verdict.{verdict};
 ghost use Rattle.gaps.specs.Gaps.{Gaps};
 

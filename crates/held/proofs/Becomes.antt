@@ -26,7 +26,7 @@ use Rattle.verdict.proofs.Accepted.{delivery-accepted}
 use Rattle.held.specs.declared.HeldModel.{HeldModel}
 use Rattle.held.specs.declared.Numbers.{Numbers}
 use Rattle.held.specs.Held.{filled, listed, listedRows, ifStanding, modelHeld, numbersHeld, holdsModel, shapeAs}
-use Rattle.held.specs.Lists.{Values, Marks}
+use Rattle.held.specs.Contracts.{Values, Marks}
 use Rattle.held.proofs.Listed.{live-listed}
 use Rattle.held.proofs.Blocks.{uppers-listed}
 

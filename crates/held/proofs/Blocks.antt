@@ -11,7 +11,7 @@ use Rattle.delivery.specs.Format.{recordBytes}
 use Rattle.delivery.specs.Shapes.{meansFrom}
 use Rattle.walks.specs.Order.{entriesIn, rowsIn, rowAt}
 use Rattle.delivery.specs.Numbers.{uppersOf, lowersOf, meansOf}
-use Rattle.held.specs.Lists.{Values}
+use Rattle.held.specs.Contracts.{Values}
 use Rattle.delivery.proofs.Values.{rest-value}
 use Rattle.certificate.proofs.Rest.{rest-lowers}
 use Rattle.certificate.proofs.Steps.{part-from}

@@ -26,10 +26,10 @@ use Rattle.wellformed.proofs.Accepted.{model-accepted}
 use Rattle.delivery.specs.Records.{valueAt}
 use Rattle.delivery.specs.Numbers.{uppersOf, rowsOfBlock}
 use Rattle.rows.proofs.Ranges.{set-more}
-use Rattle.live.specs.Exits.{bitOf, exitMarks, ExitsOf}
+use Rattle.live.specs.Contracts.{bitOf, exitMarks, ExitsOf}
 use Rattle.verdict.specs.Marks.{liveMark}
 use Rattle.held.specs.Held.{padded, listed, listedRows, filled}
-use Rattle.held.specs.Lists.{Values, Marks}
+use Rattle.held.specs.Contracts.{Values, Marks}
 
 -- ---- numbers in the first places
 

@@ -1,5 +1,5 @@
 -- What the register holds (document 01, "Filing and questions"): models and numbers as values, lists in the order of files, and places in them.
--- `Lists` serves the contracts of the code alone.
+-- `Contracts` serves the contracts of the code alone.
 pub mod Held
 pub mod Places
-pub mod Lists
+pub mod Contracts

@@ -26,9 +26,9 @@ ghost use Rattle.model.specs.Sizes.{Fits};
 ghost use Rattle.wellformed.specs.Verdict.{modelVerdict};
 ghost use Rattle.delivery.specs.Shapes.{hasLowers, hasMeans, shapeOf};
 ghost use Rattle.delivery.specs.Numbers.{lowersOf, meansOf};
-ghost use Rattle.delivery.specs.Blocks.{ShapedFile};
+ghost use Rattle.delivery.specs.Contracts.{ShapedFile};
 ghost use Rattle.certificate.specs.Margin.{marginOf};
-ghost use Rattle.certificate.specs.Rest.{AcceptedFile};
+ghost use Rattle.certificate.specs.Contracts.{AcceptedFile};
 ghost use Rattle.held.specs.Held.{filled, modelHeld, numbersHeld, listed, listedRows, ifStanding, shapeAs};
 
 // The bytes of a file, in the first places.

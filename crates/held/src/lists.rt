@@ -18,10 +18,10 @@ ghost use lib.ListN.{getD};
 ghost use Rattle.model.specs.Format.{mostEntries};
 ghost use Rattle.model.specs.Records.{statesOf, symbolsOf};
 ghost use Rattle.model.specs.Sizes.{Fits};
-ghost use Rattle.delivery.specs.Blocks.{HasRecords};
-ghost use Rattle.live.specs.Exits.{exitMarks};
+ghost use Rattle.delivery.specs.Contracts.{HasRecords};
+ghost use Rattle.live.specs.Contracts.{exitMarks};
 ghost use Rattle.verdict.specs.Marks.{liveMark};
-ghost use Rattle.held.specs.Lists.{Values, Marks};
+ghost use Rattle.held.specs.Contracts.{Values, Marks};
 
 // A listed number as a wider one.
 pub(crate) fn wide(n: u32) -> u64

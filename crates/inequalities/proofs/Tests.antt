@@ -26,10 +26,10 @@ use Rattle.ppda.specs.Live.{isLive}
 use Rattle.model.specs.Rules.{rulesOf}
 use Rattle.delivery.specs.Records.{valueAt}
 use Rattle.delivery.specs.Numbers.{uppersOf, rowsOfBlock}
-use Rattle.live.specs.Exits.{bitOf}
+use Rattle.live.specs.Contracts.{bitOf}
 use Rattle.inequalities.specs.declared.sides.Side.{Side}
 use Rattle.inequalities.specs.Inequalities.{deadTest, upperTest, belowTest, lowerTest, meanTest}
-use Rattle.inequalities.specs.Walks.{deadAt, sideTest, sideFrom, sideAt, meanAt}
+use Rattle.inequalities.specs.Contracts.{deadAt, sideTest, sideFrom, sideAt, meanAt}
 
 -- One test that does not fail.
 one-passes : (t : Test) → t .fails ≡ false → first (t ∷ []) ≡ Accepted

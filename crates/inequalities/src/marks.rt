@@ -15,8 +15,8 @@ ghost use Rattle.walks.specs.Lists.{each};
 ghost use Rattle.walks.specs.Order.{rowsIn, entriesIn};
 ghost use Rattle.model.specs.Format.{mostEntries};
 ghost use Rattle.model.specs.Sizes.{Fits};
-ghost use Rattle.delivery.specs.Blocks.{HasRecords};
-ghost use Rattle.inequalities.specs.Walks.{deadRow, deadBlock, belowAt};
+ghost use Rattle.delivery.specs.Contracts.{HasRecords};
+ghost use Rattle.inequalities.specs.Contracts.{deadRow, deadBlock, belowAt};
 
 // 23 at a row, by its number: a number that is not live is 0. The block starts at record `from`.
 fn check_dead_row(

@@ -14,10 +14,10 @@ ghost use Prim.Native.Nat.{_^_, _≤_, _<_};
 ghost use Rattle.outcome.specs.Tests.{first};
 ghost use Rattle.ppda.specs.Units.{mostMean};
 ghost use Rattle.delivery.specs.Format.{mostRecords};
-ghost use Rattle.delivery.specs.Blocks.{Chances, MeanSteps};
-ghost use Rattle.rows.specs.Starts.{Indexed};
+ghost use Rattle.delivery.specs.Contracts.{Chances, MeanSteps};
+ghost use Rattle.rows.specs.Contracts.{Indexed};
 ghost use Rattle.inequalities.specs.Inequalities.{meanTest};
-ghost use Rattle.inequalities.specs.Walks.{meanBlock};
+ghost use Rattle.inequalities.specs.Contracts.{meanBlock};
 
 // r against the right side y: a missed inequality has the shortfall r − y.
 fn check_mean(r: u64, y: u64, place: usize) -> Outcome

@@ -19,10 +19,10 @@ ghost use Rattle.ppda.specs.Units.{mostChance};
 ghost use Rattle.walks.specs.Order.{rowsIn};
 ghost use Rattle.model.specs.Format.{mostEntries};
 ghost use Rattle.model.specs.Sizes.{Fits};
-ghost use Rattle.delivery.specs.Blocks.{Chances};
-ghost use Rattle.rows.specs.Starts.{Indexed};
+ghost use Rattle.delivery.specs.Contracts.{Chances};
+ghost use Rattle.rows.specs.Contracts.{Indexed};
 ghost use Rattle.inequalities.specs.Inequalities.{upperTest, lowerTest};
-ghost use Rattle.inequalities.specs.Walks.{sideTest, sideFrom, sideRow, sideBlock};
+ghost use Rattle.inequalities.specs.Contracts.{sideTest, sideFrom, sideRow, sideBlock};
 
 // Which side of the equations a number stands on: at least f; above f at a live entry; at most f.
 pub enum Side {

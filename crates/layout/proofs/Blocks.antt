@@ -19,7 +19,7 @@ use Rattle.delivery.specs.Shapes.{hasLowers, hasMeans, meansFrom}
 use Rattle.walks.specs.Order.{entriesIn, entryAt, eachEntry, eachRow}
 use Rattle.delivery.specs.Records.{isDue, inRange}
 use Rattle.layout.specs.Layout.{onlyIf, recordTests, upperRecords, lowerRecords, meanRecords, layoutTests}
-use Rattle.layout.specs.Walks.{stateOfBlock}
+use Rattle.layout.specs.Contracts.{stateOfBlock}
 
 -- The outcome of a record by its tests, in their order.
 module _ (d : List ℕ) (i : ℕ) (k : Block) (p z q : ℕ) where

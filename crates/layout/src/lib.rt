@@ -19,9 +19,9 @@ ghost use Rattle.walks.specs.Order.{rowsIn};
 ghost use Rattle.model.specs.Sizes.{Fits};
 ghost use Rattle.delivery.specs.Records.{HasRecord};
 ghost use Rattle.delivery.specs.Shapes.{hasLowers};
-ghost use Rattle.delivery.specs.Blocks.{HasBlock, ShapedFile};
+ghost use Rattle.delivery.specs.Contracts.{HasBlock, ShapedFile};
 ghost use Rattle.layout.specs.Layout.{onlyIf, recordTests, lowerRecords, layoutTests};
-ghost use Rattle.layout.specs.Walks.{recordOfRow, rowOfState, stateOfBlock};
+ghost use Rattle.layout.specs.Contracts.{recordOfRow, rowOfState, stateOfBlock};
 
 // The tests of record i, in their order.
 fn check_record(delivery: &[u8], i: usize, block: Block, p: usize, z: usize, q: usize) -> Outcome

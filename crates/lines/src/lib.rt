@@ -11,9 +11,9 @@ ghost use mathlib.Core.Path.{_≡_};
 ghost use mathlib.Core.List.{_∷_};
 ghost use Prim.Native.Nat.{_+_, _≤_};
 ghost use lib.ListN.{length};
-ghost use Rattle.text.specs.Walks.{Put};
+ghost use Rattle.text.specs.Contracts.{Put};
 ghost use Rattle.calls.specs.Answers.{answerReply};
-ghost use Rattle.lines.specs.Walks.{tableRoom, marginRoom, refusedRoom, chanceRoom, stepsRoom, chanceText};
+ghost use Rattle.lines.specs.Contracts.{tableRoom, marginRoom, refusedRoom, chanceRoom, stepsRoom, chanceText};
 ghost use Rattle.lines.specs.Lines.{shown, saysLive, tableLine, marginLine, stepsBy, refusedLine};
 
 // The most bytes of a line: its word, its fields, each a space and at most 20 digits, and its end.

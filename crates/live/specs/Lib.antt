@@ -1,3 +1,2 @@
--- Live marks as the code finds them, a row's exits as the bits of a byte, and rounds of them: they serve the contracts of the code alone.
-pub mod Exits
-pub mod Rounds
+-- Live marks as the code finds them. `Contracts` serves the contracts of the code alone.
+pub mod Contracts

@@ -17,9 +17,9 @@ ghost use Rattle.model.specs.Format.{mostStates, mostRows};
 ghost use Rattle.model.specs.Records.{recordsOf};
 ghost use Rattle.model.specs.Accepted.{Sized};
 ghost use Rattle.model.specs.Sizes.{Fits};
-ghost use Rattle.rows.specs.Starts.{Indexed};
-ghost use Rattle.live.specs.Exits.{bitOf};
-ghost use Rattle.live.specs.Rounds.{markProduct, throughMarks, NextExitsOf};
+ghost use Rattle.rows.specs.Contracts.{Indexed};
+ghost use Rattle.live.specs.Contracts.{bitOf};
+ghost use Rattle.live.specs.Contracts.{markProduct, throughMarks, NextExitsOf};
 
 // The exit q alone.
 fn exit(q: usize) -> u8

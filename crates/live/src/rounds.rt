@@ -12,9 +12,9 @@ ghost use Rattle.ppda.specs.Live.{alive};
 ghost use Rattle.walks.specs.Order.{rowsIn};
 ghost use Rattle.model.specs.Format.{mostRows};
 ghost use Rattle.model.specs.Rules.{rulesOf};
-ghost use Rattle.rows.specs.Starts.{Indexed};
-ghost use Rattle.live.specs.Exits.{ExitsOf};
-ghost use Rattle.live.specs.Rounds.{RoundTo};
+ghost use Rattle.rows.specs.Contracts.{Indexed};
+ghost use Rattle.live.specs.Contracts.{ExitsOf};
+ghost use Rattle.live.specs.Contracts.{RoundTo};
 
 // One round: every row by the marks before.
 fn round(

@@ -5,7 +5,7 @@ use mathlib.Core.Bool.{Bool, cond}
 use mathlib.Core.List.{List, []}
 use mathlib.Core.Path.{_≡_, ap, _∙_}
 use lib.ListN.{length, getD}
-use Rattle.text.specs.Walks.{Put}
+use Rattle.text.specs.Contracts.{Put}
 use Rattle.text.proofs.Puts.{put-then}
 use Rattle.walks.proofs.Lists.{each-cong}
 use Rattle.walks.specs.Order.{entryAt, entriesIn, rowsIn, byEntry}
@@ -21,7 +21,7 @@ use Rattle.calls.specs.Calls.{Call, Reply, live}
 use Rattle.calls.specs.Answers.{answerReply}
 use Rattle.history.specs.Run.{replyOf}
 use Rattle.report.specs.declared.Printout.{Printout}
-use Rattle.report.specs.Walks.{room, HoldsText, linesWith}
+use Rattle.report.specs.Contracts.{room, HoldsText, linesWith}
 use Rattle.gaps.specs.Gaps.{gapOf, Gaps}
 use Rattle.lines.specs.Lines.{tableLine, marginLine, chanceLine, saysLive}
 use Rattle.report.specs.Printed.{liveEntries, chanceOf, chanceAt, chanceLines, stepsLines, linesBy, acceptedLines}

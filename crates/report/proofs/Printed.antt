@@ -26,7 +26,7 @@ use Rattle.calls.specs.Answers.{modelReply, markReply, deliveryReply}
 use Rattle.history.specs.Run.{afterCall, replyOf, registerAfter, replyTo, history}
 use Rattle.history.proofs.Plain.{right-pair}
 use Rattle.lines.specs.Lines.{refusedLine}
-use Rattle.report.specs.Walks.{HoldsModel, refusalOf}
+use Rattle.report.specs.Contracts.{HoldsModel, refusalOf}
 use Rattle.report.specs.Printed.{unlessRefused, acceptedLines, printed}
 
 -- An accepted delivery is taken, whatever its mark.

@@ -1,3 +1,3 @@
--- What the program prints of two files. `Walks` serves the contracts of the code alone.
+-- What the program prints of two files. `Contracts` serves the contracts of the code alone.
 pub mod Printed
-pub mod Walks
+pub mod Contracts

@@ -9,13 +9,13 @@ use register::Register;
 ghost use mathlib.Core.Path.{_≡_};
 ghost use Prim.Native.Nat.{_+_, _*_, _≤_};
 ghost use lib.ListN.{length};
-ghost use Rattle.text.specs.Walks.{Put};
+ghost use Rattle.text.specs.Contracts.{Put};
 ghost use Rattle.model.specs.Format.{mostEntries};
 ghost use Rattle.model.specs.Sizes.{Fits};
 ghost use Rattle.history.specs.Run.{replyOf};
-ghost use Rattle.lines.specs.Walks.{chanceRoom, chanceText};
+ghost use Rattle.lines.specs.Contracts.{chanceRoom, chanceText};
 ghost use Rattle.report.specs.Printed.{chanceOf};
-ghost use Rattle.report.specs.Walks.{chancesBy};
+ghost use Rattle.report.specs.Contracts.{chancesBy};
 
 // All that the line of entry (p, z, q) needs of a register.
 fn asked(register: Register, p: usize, z: usize, q: usize, gap: u64) -> Chance

@@ -32,7 +32,7 @@ ghost use Rattle.verdict.specs.Verdict.{verdict};
 ghost use Rattle.history.specs.Run.{replyOf};
 ghost use Rattle.model.specs.Sizes.{Fits};
 ghost use Rattle.report.specs.Printed.{acceptedLines, printed};
-ghost use Rattle.report.specs.Walks.{room, HoldsText, linesWith, HoldsModel, refusalOf};
+ghost use Rattle.report.specs.Contracts.{room, HoldsText, linesWith, HoldsModel, refusalOf};
 ghost use lib.ListN.{length};
 
 // The bytes of a buffer: no report has more lines, nor longer ones.

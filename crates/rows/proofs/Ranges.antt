@@ -16,7 +16,7 @@ use Rattle.model.specs.Rules.{rowOf}
 use Rattle.model.specs.Accepted.{Sized}
 use Rattle.model.proofs.Rows.{rows-ascend}
 use Rattle.model.specs.Rules.{StartsAt}
-use Rattle.rows.specs.Starts.{Starts}
+use Rattle.rows.specs.Contracts.{Starts}
 
 -- One number more of a list is as it should be.
 pub set-more : (P : ℕ → ℕ → Type 0) {k a : ℕ} (l : List ℕ) → k < length l → ((e : ℕ) → e < k → P e (getD l e 0)) → P k a

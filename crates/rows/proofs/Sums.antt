@@ -21,7 +21,7 @@ use Rattle.model.proofs.Records.{over-row}
 use Rattle.model.proofs.Rows.{row-fits}
 use Rattle.model.proofs.Accepted.{sized-fits}
 use Rattle.model.specs.Rules.{StartsAt}
-use Rattle.rows.specs.Starts.{Starts}
+use Rattle.rows.specs.Contracts.{Starts}
 use Rattle.model.specs.Accepted.{Sized}
 use Rattle.rows.proofs.Ranges.{starts-ascend}
 

@@ -1,2 +1,2 @@
--- Where the records of each row of an accepted model start. These definitions serve the contracts of the code alone.
-pub mod Starts
+-- Where the records of each row of an accepted model start. `Contracts` serves the contracts of the code alone.
+pub mod Contracts

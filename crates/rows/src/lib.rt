@@ -13,7 +13,7 @@ ghost use Rattle.model.specs.Records.{recordsOf};
 ghost use Rattle.model.specs.Rules.{rowOf};
 ghost use Rattle.model.specs.Accepted.{Sized};
 ghost use Rattle.model.specs.Rules.{StartsAt};
-ghost use Rattle.rows.specs.Starts.{Indexed};
+ghost use Rattle.rows.specs.Contracts.{Indexed};
 
 // How many numbers say where the rows start and where the last ends.
 pub const STARTS: usize = MOST_ROWS + 1;

@@ -21,9 +21,10 @@ use Rattle.model.specs.Rules.{rulesOf}
 use Rattle.model.proofs.Accepted.{sized-fits}
 use Rattle.delivery.specs.Records.{valueAt}
 use Rattle.delivery.specs.Numbers.{uppersOf}
-use Rattle.live.specs.Exits.{bitOf}
-use Rattle.equations.specs.Products.{fOf}
-use Rattle.shares.specs.Shares.{StrictAt, Strict, shareOf, leastShare, gapAt, Standing}
+use Rattle.live.specs.Contracts.{bitOf}
+use Rattle.equations.specs.Contracts.{fOf}
+use Rattle.shares.specs.Gap.{gapAt}
+use Rattle.shares.specs.Contracts.{StrictAt, Strict, shareOf, leastShare, Standing}
 
 -- ---- one share
 

@@ -8,7 +8,8 @@ use rows::STARTS;
 ghost use mathlib.Core.Path.{_≡_};
 ghost use Prim.Native.Nat.{_<_};
 ghost use Rattle.walks.specs.Order.{rowsIn, byRow};
-ghost use Rattle.shares.specs.Shares.{gapAt, Standing};
+ghost use Rattle.shares.specs.Gap.{gapAt};
+ghost use Rattle.shares.specs.Contracts.{Standing};
 
 // u − f(u) at the entry of a row, by its number, with exit q.
 pub fn gap(

@@ -14,7 +14,7 @@ ghost use Prim.Native.Nat.{_*_, _≤_, _<_};
 ghost use Rattle.ppda.specs.Units.{mostChance, sumUnit};
 ghost use Rattle.walks.specs.Order.{rowsIn};
 ghost use Rattle.ppda.specs.Margin.{share, shareAt};
-ghost use Rattle.shares.specs.Shares.{StrictAt, StrictBlock, leastInRow, leastShare};
+ghost use Rattle.shares.specs.Contracts.{StrictAt, StrictBlock, leastInRow, leastShare};
 
 // A difference in units of a sum, divided by u times this, is a share in 1/2^20.
 const SHARE_UNIT: u64 = SUM_UNIT / CHANCE_UNIT;

@@ -9,7 +9,7 @@ use lib.Seq.{take-all, paste, length-paste, take-paste, take-suc, take-suc-set}
 use Rattle.text.specs.Decimal.{decimal}
 use Rattle.text.specs.Texts.{fields, spaced}
 use Rattle.walks.specs.Lists.{each}
-use Rattle.text.specs.Walks.{Put}
+use Rattle.text.specs.Contracts.{Put}
 
 -- Nothing.
 pub put-none : (a : List ℕ) (at : ℕ) → Put a a at at []

@@ -5,7 +5,7 @@ ghost use Prim.Native.Nat.{_+_, _≤_, _<_};
 ghost use lib.ListN.{length};
 ghost use Rattle.text.specs.Decimal.{decimal, signed};
 ghost use Rattle.text.specs.Texts.{spaced};
-ghost use Rattle.text.specs.Walks.{Put, fieldsRoom};
+ghost use Rattle.text.specs.Contracts.{Put, fieldsRoom};
 
 // Puts one byte.
 pub fn put_byte(out: &mut [u8], at: usize, byte: u8) -> usize

@@ -8,7 +8,7 @@ use Rattle.outcome.proofs.Tests.{each-none, each-more, each-refused, each-end}
 use Rattle.outcome.specs.Tests.{first}
 use Rattle.walks.specs.Lists.{each}
 use Rattle.outcome.specs.declared.Outcome.the-variants.{Accepted}
-use Rattle.layout.specs.Walks.{stateOfBlock}
+use Rattle.layout.specs.Contracts.{stateOfBlock}
 use Rattle.layout.proofs.check_block.Statement.{statement}
 use Rattle.layout.proofs.check_block.Tie as tie
 

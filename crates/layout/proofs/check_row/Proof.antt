@@ -7,7 +7,7 @@ use Rattle.outcome.proofs.Tests.{each-none, each-more, each-refused, each-end}
 use Rattle.outcome.specs.Tests.{first}
 use Rattle.walks.specs.Lists.{each}
 use Rattle.outcome.specs.declared.Outcome.the-variants.{Accepted}
-use Rattle.layout.specs.Walks.{recordOfRow}
+use Rattle.layout.specs.Contracts.{recordOfRow}
 use Rattle.layout.proofs.check_row.Statement.{statement}
 use Rattle.layout.proofs.check_row.Tie as tie
 

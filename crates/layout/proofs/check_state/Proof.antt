@@ -8,7 +8,7 @@ use Rattle.outcome.proofs.Tests.{each-none, each-more, each-refused, each-end}
 use Rattle.outcome.specs.Tests.{first}
 use Rattle.walks.specs.Lists.{each}
 use Rattle.outcome.specs.declared.Outcome.the-variants.{Accepted}
-use Rattle.layout.specs.Walks.{rowOfState}
+use Rattle.layout.specs.Contracts.{rowOfState}
 use Rattle.layout.proofs.check_state.Statement.{statement}
 use Rattle.layout.proofs.check_state.Tie as tie
 

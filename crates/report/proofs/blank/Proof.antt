@@ -1,7 +1,7 @@
 -- `blank`: a list of that many zeros is that long.
 use Prim.Native.Nat.{ℕ}
 use lib.ListN.{length-replicate}
-use Rattle.report.specs.Walks.{room}
+use Rattle.report.specs.Contracts.{room}
 use Rattle.report.proofs.blank.Statement.{statement}
 use Rattle.report.proofs.blank.Tie as tie
 

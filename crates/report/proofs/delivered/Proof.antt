@@ -1,7 +1,7 @@
 -- `delivered`: a refusal is printed; where there is none, the register shows its files, and they are accepted.
 use mathlib.Core.Path.{subst}
 use borrow.Author.Needs.{needs}
-use Rattle.report.specs.Walks.{HoldsText}
+use Rattle.report.specs.Contracts.{HoldsText}
 use Rattle.report.proofs.Printed.{delivery-refused, lines-of-held, held-accepted}
 use Rattle.report.proofs.delivered.Statement.{statement}
 use Rattle.report.proofs.delivered.Tie as tie

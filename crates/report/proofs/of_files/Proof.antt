@@ -1,7 +1,7 @@
 -- `of_files`: a refused model is printed; one that is accepted is held, and the delivery decides.
 use mathlib.Core.Path.{subst}
 use borrow.Author.Needs.{needs}
-use Rattle.report.specs.Walks.{HoldsText}
+use Rattle.report.specs.Contracts.{HoldsText}
 use Rattle.report.proofs.Printed.{model-refused, model-held}
 use Rattle.report.proofs.of_files.Statement.{statement}
 use Rattle.report.proofs.of_files.Tie as tie

@@ -3,7 +3,7 @@ use Prim.Native.Nat.{_≤_}
 use native.Mathlib.Omega.{arith}
 use borrow.Author.Needs.{needs}
 use Rattle.text.proofs.Puts.{put-as}
-use Rattle.report.specs.Walks.{room}
+use Rattle.report.specs.Contracts.{room}
 use Rattle.report.proofs.Asked.{put-holds}
 use Rattle.report.proofs.Printed.{refused-text}
 use Rattle.report.proofs.refusal.Statement.{statement}

@@ -3,7 +3,7 @@ use mathlib.Core.Path.{subst}
 use borrow.Author.Needs.{needs}
 use Rattle.model.proofs.Accepted.{sized-fits}
 use Rattle.certificate.proofs.Steps.{sized-by-verdict}
-use Rattle.report.specs.Walks.{HoldsText}
+use Rattle.report.specs.Contracts.{HoldsText}
 use Rattle.report.proofs.Asked.{lines-said}
 use Rattle.report.proofs.shown.Statement.{statement}
 use Rattle.report.proofs.shown.Tie as tie

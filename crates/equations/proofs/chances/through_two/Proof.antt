@@ -3,7 +3,7 @@ use Prim.Native.Nat.{_+_, _*_, _^_, _≤_, _-_}
 use native.Mathlib.Nat.{mul-le-mul}
 use native.Mathlib.Omega.{arith}
 use mathlib.Core.Path.{ap₂}
-use Rattle.equations.specs.Products.{product}
+use Rattle.equations.specs.Contracts.{product}
 use Rattle.rows.proofs.Sums.{StateSum, states-none, states-more, states-end, states-within}
 use Rattle.equations.proofs.Limits.{upper-most}
 use Rattle.equations.proofs.chances.through_two.Statement.{statement}

@@ -3,7 +3,7 @@ use Prim.Native.Nat.{_+_, _*_, _^_, _≤_, _-_}
 use native.Mathlib.Nat.{mul-le-mul}
 use native.Mathlib.Omega.{arith}
 use mathlib.Core.Path.{ap₂}
-use Rattle.equations.specs.Products.{stepsProduct}
+use Rattle.equations.specs.Contracts.{stepsProduct}
 use Rattle.rows.proofs.Sums.{StateSum, states-none, states-more, states-end, states-within}
 use Rattle.equations.proofs.Limits.{upper-most}
 use Rattle.equations.proofs.steps.steps_two.Statement.{statement}

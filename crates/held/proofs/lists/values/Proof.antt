@@ -2,7 +2,7 @@
 use Prim.Native.Nat.{_-_, _≤_}
 use native.Mathlib.Omega.{arith}
 use borrow.Author.Needs.{needs}
-use Rattle.held.specs.Lists.{Values}
+use Rattle.held.specs.Contracts.{Values}
 use Rattle.held.proofs.Listed.{values-none, values-step, values-end}
 use Rattle.held.proofs.lists.values.Statement.{statement}
 use Rattle.held.proofs.lists.values.Tie as tie

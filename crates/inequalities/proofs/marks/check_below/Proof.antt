@@ -7,7 +7,7 @@ use Rattle.outcome.proofs.Tests.{each-none, each-more, each-refused, each-end}
 use Rattle.outcome.specs.Tests.{first}
 use Rattle.walks.specs.Lists.{each}
 use Rattle.outcome.specs.declared.Outcome.the-variants.{Accepted}
-use Rattle.inequalities.specs.Walks.{belowAt}
+use Rattle.inequalities.specs.Contracts.{belowAt}
 use Rattle.inequalities.proofs.Tests.{below-fails, below-passes}
 use Rattle.inequalities.proofs.marks.check_below.Statement.{statement}
 use Rattle.inequalities.proofs.marks.check_below.Tie as tie

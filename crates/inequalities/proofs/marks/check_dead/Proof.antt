@@ -11,7 +11,7 @@ use Rattle.outcome.specs.declared.Outcome.the-variants.{Accepted}
 use Rattle.walks.specs.Order.{rowsIn}
 use Rattle.model.specs.Format.{mostRows}
 use Rattle.walks.proofs.Orders.{entries-by-row}
-use Rattle.inequalities.specs.Walks.{deadRow, deadBlock}
+use Rattle.inequalities.specs.Contracts.{deadRow, deadBlock}
 use Rattle.inequalities.proofs.marks.check_dead.Statement.{statement}
 use Rattle.inequalities.proofs.marks.check_dead.Tie as tie
 

@@ -12,7 +12,7 @@ use Rattle.outcome.specs.declared.Outcome.{Outcome}
 use Rattle.outcome.specs.declared.Outcome.the-variants.{Accepted}
 use Rattle.model.proofs.Records.{fits-narrow}
 use Rattle.inequalities.specs.Inequalities.{deadTest}
-use Rattle.inequalities.specs.Walks.{deadAt}
+use Rattle.inequalities.specs.Contracts.{deadAt}
 use Rattle.inequalities.proofs.Tests.{dead-fails, dead-passes, dead-found}
 use Rattle.inequalities.proofs.marks.check_dead_row.Statement.{statement}
 use Rattle.inequalities.proofs.marks.check_dead_row.Tie as tie

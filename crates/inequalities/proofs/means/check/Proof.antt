@@ -14,7 +14,7 @@ use Rattle.walks.specs.Order.{rowsIn}
 use Rattle.model.specs.declared.sizes.Sizes.{Sizes}
 use Rattle.model.specs.Format.{mostRows}
 use Rattle.model.proofs.Accepted.{sized-fits}
-use Rattle.inequalities.specs.Walks.{meanAt, meanBlock}
+use Rattle.inequalities.specs.Contracts.{meanAt, meanBlock}
 use Rattle.inequalities.proofs.Tests.{mean-found}
 use Rattle.inequalities.proofs.means.check.Statement.{statement}
 use Rattle.inequalities.proofs.means.check.Tie as tie

@@ -12,7 +12,7 @@ use Rattle.walks.proofs.Orders.{entries-by-row}
 use Rattle.walks.specs.Order.{rowsIn}
 use Rattle.model.specs.Format.{mostRows}
 use Rattle.model.proofs.Accepted.{sized-fits}
-use Rattle.inequalities.specs.Walks.{sideRow, sideBlock}
+use Rattle.inequalities.specs.Contracts.{sideRow, sideBlock}
 use Rattle.inequalities.proofs.sides.check.Statement.{statement}
 use Rattle.inequalities.proofs.sides.check.Tie as tie
 

@@ -10,7 +10,7 @@ use Rattle.walks.specs.Lists.{each}
 use Rattle.outcome.specs.declared.Outcome.the-variants.{Accepted}
 use Rattle.model.proofs.Records.{fits-narrow}
 use Rattle.model.proofs.Accepted.{sized-fits}
-use Rattle.inequalities.specs.Walks.{sideAt}
+use Rattle.inequalities.specs.Contracts.{sideAt}
 use Rattle.inequalities.proofs.Tests.{side-found}
 use Rattle.inequalities.proofs.sides.check_row.Statement.{statement}
 use Rattle.inequalities.proofs.sides.check_row.Tie as tie

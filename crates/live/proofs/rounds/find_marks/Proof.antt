@@ -6,7 +6,7 @@ use lib.ListN.{length}
 use Rattle.walks.specs.Order.{entriesIn}
 use Rattle.ppda.specs.Live.{mark}
 use Rattle.model.specs.Rules.{rulesOf}
-use Rattle.live.specs.Exits.{ExitsOf}
+use Rattle.live.specs.Contracts.{ExitsOf}
 use Rattle.model.specs.Format.{mostRows, mostEntries}
 use Rattle.model.proofs.Accepted.{sized-fits}
 use Rattle.live.proofs.Marks.{no-exits, marks-next, marks-all, marks-unchanged}

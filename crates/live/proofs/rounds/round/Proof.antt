@@ -1,7 +1,7 @@
 -- `round`: each turn puts the next exits of one more row.
 use Prim.Native.Nat.{_≤_, _-_}
 use native.Mathlib.Omega.{arith}
-use Rattle.live.specs.Rounds.{RoundTo}
+use Rattle.live.specs.Contracts.{RoundTo}
 use Rattle.model.specs.Format.{mostRows}
 use Rattle.model.proofs.Accepted.{sized-fits}
 use Rattle.live.proofs.Marks.{round-none, round-more, round-at}

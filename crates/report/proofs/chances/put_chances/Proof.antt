@@ -10,7 +10,7 @@ use Rattle.ppda.specs.Equations as equations
 use Rattle.model.specs.Format.{mostEntries}
 use Rattle.history.specs.Run.{replyOf}
 use Rattle.report.specs.Printed.{chanceAt, chanceLines}
-use Rattle.lines.specs.Walks.{chanceRoom}
+use Rattle.lines.specs.Contracts.{chanceRoom}
 use Rattle.report.proofs.Asked.{chance-by-number}
 use Rattle.report.proofs.chances.put_chances.Statement.{statement}
 use Rattle.report.proofs.chances.put_chances.Tie as tie

@@ -8,7 +8,7 @@ use Rattle.walks.specs.Order.{rowsIn, byRow}
 use Rattle.model.specs.Format.{mostRows}
 use Rattle.history.specs.Run.{replyOf}
 use Rattle.report.specs.Printed.{stepsAt, stepsLines}
-use Rattle.lines.specs.Walks.{stepsRoom}
+use Rattle.lines.specs.Contracts.{stepsRoom}
 use Rattle.report.proofs.steps.put_means.Statement.{statement}
 use Rattle.report.proofs.steps.put_means.Tie as tie
 

@@ -8,7 +8,7 @@ use borrow.Author.Needs.{needs}
 use Rattle.walks.specs.Sums.{leastTo}
 use Rattle.model.proofs.Records.{fits-narrow}
 use Rattle.model.proofs.Accepted.{sized-fits}
-use Rattle.shares.specs.Shares.{shareOf}
+use Rattle.shares.specs.Contracts.{shareOf}
 use Rattle.shares.proofs.Shares.{strict-found, share-found, least-none, least-more}
 use Rattle.shares.proofs.margin.least_of_row.Statement.{statement}
 use Rattle.shares.proofs.margin.least_of_row.Tie as tie

@@ -1,21 +1,21 @@
--- The margin as the code works it out, from the rows' marks and the block of uppers; and u − f(u), which every accepted upper leaves.
-use Prim.Native.Nat.{ℕ, _-_, _*_, _<_}
+-- The margin as the code works it out, from the rows' marks and the block of uppers; and what u − f(u) is worked out of.
+use Prim.Native.Nat.{ℕ, _*_, _<_}
 use mathlib.Core.Bool.{Bool, true}
 use mathlib.Core.List.{List}
 use mathlib.Core.Path.{_≡_}
 use Rattle.walks.specs.Sums.{leastTo}
 use Rattle.ppda.specs.Units.{chanceUnit, sumUnit}
 use Rattle.walks.specs.Order.{AtEntries, byRow}
-use Rattle.ppda.specs.Equations.{Vector, f}
+use Rattle.ppda.specs.Equations.{f}
 use Rattle.ppda.specs.Live.{isLive}
 use Rattle.ppda.specs.Margin.{shareAt}
 use Rattle.ppda.specs.Bounds as Bounds
 use Rattle.model.specs.declared.sizes.Sizes.{Sizes}
 use Rattle.model.specs.Rules.{rulesOf}
 use Rattle.delivery.specs.Numbers.{uppersOf}
-use Rattle.delivery.specs.Blocks.{Chances}
-use Rattle.live.specs.Exits.{exitMarks}
-use Rattle.rows.specs.Starts.{Indexed}
+use Rattle.delivery.specs.Contracts.{Chances}
+use Rattle.live.specs.Contracts.{exitMarks}
+use Rattle.rows.specs.Contracts.{Indexed}
 
 -- An upper u with f(u) = y at an entry is greater than f(u) if it is live.
 abbrev pub StrictAt : Bool → ℕ → ℕ → Type 0
@@ -46,10 +46,6 @@ pub record StrictBlock (b : List ℕ) (n : Sizes) (starts a u : List ℕ) : Type
   pub indexed : Indexed b n starts
   pub chances : Chances n u
   pub strict : Strict b (n .states) (n .symbols) a u
-
--- u − f(u) at (p, z, q), in 1/2^56, for the uppers u of the block d.
-unfoldable pub gapAt : List ℕ → ℕ → ℕ → List ℕ → Vector
-gapAt b s g d p z q = uppersOf s g d p z q * sumUnit - f (rulesOf b) s chanceUnit (uppersOf s g d) p z q
 
 -- Uppers of a model that stand: each is at least f.
 pub record Standing (b : List ℕ) (n : Sizes) (starts d : List ℕ) : Type 0 where

@@ -19,9 +19,9 @@ use Rattle.delivery.specs.Format.{recordBytes}
 use Rattle.delivery.specs.Shapes.{hasLowers, hasMeans, meansFrom, shapeOf}
 use Rattle.delivery.specs.Numbers.{uppersOf, rowsOfBlock}
 use Rattle.layout.specs.Layout.{onlyIf, layoutTests}
-use Rattle.delivery.specs.Blocks.{Within, Chances}
-use Rattle.rows.specs.Starts.{Indexed}
-use Rattle.live.specs.Exits.{exitMarks}
+use Rattle.delivery.specs.Contracts.{Within, Chances}
+use Rattle.rows.specs.Contracts.{Indexed}
+use Rattle.live.specs.Contracts.{exitMarks}
 use Rattle.inequalities.specs.Inequalities.{deadTests, upperTests, belowTests, lowerTests, meanTests}
 use Rattle.verdict.specs.Verdict.{verdict}
 

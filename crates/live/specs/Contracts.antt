@@ -1,16 +1,30 @@
--- One round of the live marks, as it is worked out row by row.
-use Prim.Native.Nat.{ℕ, _*_, _/_, _%_, _<_}
+-- Marks kept by rows, a row's marked exits as the bits of one number, and one round of them, as it is worked out row by row.
+use Prim.Native.Nat.{ℕ, _/_, _%_, _^_, _*_, _<_}
 use mathlib.Core.List.{List}
 use mathlib.Core.Path.{_≡_}
 use lib.ListN.{length}
+use Rattle.ppda.specs.Equations.{Vector, Same, rows, through, f}
+use Rattle.model.specs.Format.{mostRows}
 use Rattle.walks.specs.Sums.{sign}
 use Rattle.walks.specs.Order.{rowAt}
-use Rattle.ppda.specs.Equations.{rows, through, f}
 use Rattle.model.specs.declared.sizes.Sizes.{Sizes}
-use Rattle.model.specs.Format.{mostRows}
 use Rattle.model.specs.Records.{target}
 use Rattle.model.specs.Rules.{pushAt, rulesOf}
-use Rattle.live.specs.Exits.{bitOf, exitMarks}
+
+-- Bit q of a number.
+abbrev pub bitOf : ℕ → ℕ → ℕ
+bitOf n q = n / 2 ^ q % 2
+
+-- The marks of a list with one number a row: bit q of row (p, z).
+abbrev pub exitMarks : ℕ → List ℕ → Vector
+exitMarks g l p z q = bitOf (rows g l p z) q
+
+-- The list has the marks v of the rows' exits.
+pub record ExitsOf (s g : ℕ) (v : Vector) (l : List ℕ) : Type 0 where
+  pub size : length l ≡ mostRows
+  pub marks : Same s g (exitMarks g l) v
+
+-- ---- one round
 
 -- One product of f of the marks l at a rule that pushes two, whose first symbol has the exits a.
 abbrev pub markProduct : ℕ → List ℕ → ℕ → ℕ → ℕ → ℕ → ℕ

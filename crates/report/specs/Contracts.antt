@@ -13,7 +13,7 @@ use Rattle.register.specs.declared.Register.{Register}
 use Rattle.register.specs.Filing.{cleared, fileModel}
 use Rattle.history.specs.Run.{replyOf}
 use Rattle.lines.specs.Lines.{refusedLine}
-use Rattle.lines.specs.Walks.{tableRoom, marginRoom, chanceRoom, stepsRoom}
+use Rattle.lines.specs.Contracts.{tableRoom, marginRoom, chanceRoom, stepsRoom}
 use Rattle.report.specs.declared.Printout.{Printout}
 use Rattle.report.specs.Printed.{chanceLines, linesBy}
 
