@@ -1,6 +1,6 @@
 """Holds every name that the documents give in backticks to the tree: it exists, and it stands in the file that is named beside it.
 
-A word is checked by its form: a path, a must-fail edit, a path of code (`a::b`), a theorem (with hyphens), code (with underscores, or capitals alone), a
+A word is checked by its form: a path, a must-fail edit, a path of code (`a::b`), a theorem or a statement's field (with hyphens), code (with underscores, or capitals alone), a
 definition or type (with a capital inside or first). A word of no such form, such as a value or a plain word, is checked where the document says which file or
 crate it stands in: `name` (`file`), `name` of `file`, (`name`, `file`), a list after a folder, a column "stands in" or "its calls". Of a command line only
 its paths are checked. What describes the past (CHANGELOG.md, docs/changes/) is not checked: names there may have gone. The table of crates has each crate
@@ -160,7 +160,7 @@ def missing(block, word):
     if CODE_PATH.fullmatch(word):
         return code_path_missing(block, word)
     if THEOREM.fullmatch(word):
-        return None if anywhere("proofs", word) else "no such theorem"
+        return None if anywhere("proofs", word) or anywhere("specs", word) else "no such theorem, nor a field of a statement"
     if CODE.fullmatch(word):
         return None if anywhere("src", word) else "not in the code"
     return definition_missing(block, word) if DEFINITION.fullmatch(word) else None

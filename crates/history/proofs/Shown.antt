@@ -113,8 +113,8 @@ module _ {cs : List Call} {b d : List ℕ} (files : Files cs b d) where
       let same : lowersOf (statesOf b) (symbolsOf b) d p z q ≡ l = cc in
       record {
         model = b;
-        upper-shown = uppersOf (statesOf b) (symbolsOf b) d p z q;
-        margin-shown = marginOf b d;
+        upper-answered = uppersOf (statesOf b) (symbolsOf b) d p z q;
+        margin-answered = marginOf b d;
         held = files .model;
         upper-asked = upper-replied p z q hp hz hq;
         margin-asked = margin-replied shape has;

@@ -97,12 +97,12 @@ UpperShown cs = (p z q u : ℕ) → replyTo cs (upper p z q) ≡ value u → (b 
 -- For a lower, with the upper and the margin that the questions on them answer.
 pub record LowerHeld (cs : List Call) (p z q l : ℕ) : Type 0 where
   pub model : List ℕ
-  pub upper-shown : ℕ
-  pub margin-shown : ℕ
+  pub upper-answered : ℕ
+  pub margin-answered : ℕ
   pub held : Holds cs model
-  pub upper-asked : replyTo cs (upper p z q) ≡ value upper-shown
-  pub margin-asked : replyTo cs margin ≡ value margin-shown
-  pub holds : LowerHolds (rulesOf model) p z q l upper-shown margin-shown
+  pub upper-asked : replyTo cs (upper p z q) ≡ value upper-answered
+  pub margin-asked : replyTo cs margin ≡ value margin-answered
+  pub holds : LowerHolds (rulesOf model) p z q l upper-answered margin-answered
 
 abbrev pub LowerShown : List Call → Type 0
 LowerShown cs = (p z q l : ℕ) → replyTo cs (lower p z q) ≡ value l → LowerHeld cs p z q l
