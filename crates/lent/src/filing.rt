@@ -1,15 +1,28 @@
-// The filings on a lent register: each calls the filing by value and writes the register back, which on refusal is the same value.
+// The filings on a lent register: each calls the filing by value and stores the register that it gives only if the filing was accepted, so that
+// a refused one writes to no lent memory.
 
 use calls::Mark;
 use outcome::Outcome;
 use register::Register;
+ghost use mathlib.Core.Bool.{not};
 ghost use mathlib.Core.Path.{_≡_};
+ghost use Rattle.outcome.specs.Tests.{isRefused};
 ghost use Rattle.register.specs.Filing.{fileModel, fileDelivery};
 
 // What filing a delivery answers: the outcome, and the mark of an accepted delivery.
 pub struct Receipt {
     pub outcome: Outcome,
     pub mark: Mark,
+}
+
+// Whether a filing of this outcome is stored.
+fn is_stored(outcome: Outcome) -> bool
+    ensures { λ r. ⌜ r ≡ not (isRefused outcome) ⌝ }
+{
+    match outcome {
+        Outcome::Accepted => true,
+        Outcome::Refused { .. } => false,
+    }
 }
 
 // Files a model in the lent register.
@@ -20,8 +33,11 @@ pub fn file_model(held: &mut Register, file: &[u8]) -> Outcome
         ⌝ }
 {
     let filed = (*held).file_model(file);
-    *held = filed.register;
-    filed.outcome
+    let outcome = filed.outcome;
+    if is_stored(outcome) {
+        *held = filed.register;
+    }
+    outcome
 }
 
 // Files a delivery for the model of the lent register.
@@ -33,9 +49,12 @@ pub fn file_delivery(held: &mut Register, file: &[u8]) -> Receipt
         ⌝ }
 {
     let received = (*held).file_delivery(file);
-    *held = received.register;
+    let outcome = received.outcome;
+    if is_stored(outcome) {
+        *held = received.register;
+    }
     Receipt {
-        outcome: received.outcome,
+        outcome,
         mark: received.mark,
     }
 }

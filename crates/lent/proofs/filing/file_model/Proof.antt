@@ -1,14 +1,14 @@
--- `file_model`: the filing by value is called on a copy of the lent register, and what it gives is stored and answered.
+-- `file_model`: the filing by value is called on a copy of the lent register; what it gives is answered, and stored if it was accepted. A
+-- refused filing gives the register that was lent.
 use mathlib.Core.Path.{refl, ap}
 use mathlib.Core.List.{[], _∷_}
-use mir.Syntax.{place, field, copy, rvOpd, tcons, tnil}
-use mir.Val.{vnil, vcons}
+use mir.Syntax.{place, copy, rvOpd, tnil}
+use mir.Val.{vnil}
 use base.Logic.{emp}
 use contract.Monad.{factI}
 use contract.Running.{givenOf, tables, tablesOf}
 use types.Kit.{ ! }
-use types.Run.{stop, fld, from, load, of-opd}
-use types.Part.{whole, sub, look-in}
+use types.Run.{look, stop, from, load, of-opd}
 use denote.Steps.{only}
 use denote.Struct.Laws as LL
 use denote.Enum.Laws as EL
@@ -21,34 +21,41 @@ use Rattle.register.proofs.Filed as F
 use Rattle.register.proofs.Filed.Laws as F′
 use Rattle.register.proofs.Register.file_model.Symbol as callee
 use Rattle.register.proofs.Register.file_model.Met as callee-thm
-use Rattle.lent.proofs.Lent.{Filing, Files, meets}
+use Rattle.register.proofs.Keeps.{model-keeps}
+use Rattle.lent.proofs.Lent.{Filing, Files, Tests, outcome-val, meets}
+use Rattle.lent.proofs.filing.is_stored.Symbol as test
+use Rattle.lent.proofs.filing.is_stored.Met as test-thm
 use Rattle.lent.proofs.filing.file_model.Key.{name as #file-model}
 use Rattle.lent.proofs.filing.file_model as self
 use Rattle.lent.proofs.filing.file_model.Statement as stated
 use Rattle.lent.proofs.filing.file_model.Code as code
 
--- `_3` holds a `Filed`, whose second field is answered.
+-- `_3` holds a `Filed`, and `_4` its outcome, which is answered.
 abbrev filing : Filing
 filing = record {
   callee = callee.name;
   given = F.the-row;
   name = F.the-type .name;
-  tys = tcons O′.mir tnil;
+  tys = tnil;
   register = λ f. f .register;
-  others = λ f. vcons (EL.val O.the-type O′.the-laws (f .outcome)) vnil;
+  outcome = λ f. f .outcome;
+  others = λ f. vnil;
   files = fileModel;
+  test = test.name;
+  keeps = model-keeps;
   result = O.the-row;
   ty = O′.mir;
   answer = λ f. f .outcome;
-  answer-val = λ f. EL.val O.the-type O′.the-laws (f .outcome);
-  right-side = rvOpd (copy (place 3 (field 1 ∷ [])));
+  answer-val = λ f. outcome-val (f .outcome);
+  right-side = rvOpd (copy (place 4 []));
   spelled = λ f u is. ap only (LL.tells F.the-type F′.the-laws f (u ∷ []) is);
   registered = λ f u is. LL.owed F.the-type F′.the-laws f (u ∷ []) is .0;
+  come-out = λ f u is. LL.owed F.the-type F′.the-laws f (u ∷ []) is .1 .0;
   answerTo = λ f u is. LL.owed F.the-type F′.the-laws f (u ∷ []) is .1 .0;
   makes = λ 𝓤 H A. EL.makes O.the-type O′.the-plain 𝓤 H A;
   typed = λ 𝓤 H A W f u is. LL.lawful F.the-type F′.the-laws 𝓤 H A W .typed f (u ∷ []) is .0;
   answer-typed = λ 𝓤 H A W f is. EL.lawful O.the-type O′.the-laws 𝓤 H A W tt .typed (f .outcome) _ is .0;
-  evaluates = λ 𝓤 H A W Γ e₀ e₁ e₂ E l f. of-opd ! (load ! (from ! (fld ! refl (stop !))) (look-in ! 0 (sub ! 1 refl (whole !))));
+  evaluates = λ 𝓤 H A W Γ e₀ e₁ e₂ E l l′ f. of-opd ! (load ! (from ! (stop !)) (look ! 1 refl));
 }
 
 pub file-model-spec : {M : Type 1} → stated.statement M
@@ -59,4 +66,5 @@ file-model-spec 𝓤 H 𝓜 𝓖 𝓡 =
     (meets filing 𝓤 H (𝓖 .A) (givenOf 𝓤 H 𝓜 𝓖) (λ κs a. self.clauses 𝓤 H (𝓖 .A) (𝓜 .mem) (𝓡 .run) κs a .ensures tt)
     (λ κs a. factI 𝓤 _ (emp 𝓤) (refl, refl)) (tablesOf 𝓤 H 𝓜 (tables 𝓤 H 𝓜 𝓡 code.env))
     (cited 𝓤 H (Files filing 𝓤 H (𝓖 .A)) 𝓜 𝓡 code.env callee.name callee.routine code.calls-register·Register·file-model
-    (callee-thm.met 𝓤 H 𝓜 𝓖 𝓡)))
+    (callee-thm.met 𝓤 H 𝓜 𝓖 𝓡))
+    (cited 𝓤 H (Tests 𝓤 H (𝓖 .A)) 𝓜 𝓡 code.env test.name test.routine code.calls-lent·filing·is-stored (test-thm.met 𝓤 H 𝓜 𝓖 𝓡)))
