@@ -1,5 +1,5 @@
-// The filings on a lent register: each calls the filing by value and stores the register that it gives only if the filing was accepted, so that
-// a refused one writes to no lent memory.
+// The filings on a lent register: each calls the filing by value and stores the register that it gives only if the filing was accepted. A refused
+// one writes to no lent memory (proofs/Untouched.antt).
 
 use calls::Mark;
 use outcome::Outcome;
@@ -15,7 +15,7 @@ pub struct Receipt {
     pub mark: Mark,
 }
 
-// Whether a filing of this outcome is stored.
+// Whether a filing is stored, by its outcome.
 fn is_stored(outcome: Outcome) -> bool
     ensures { λ r. ⌜ r ≡ not (isRefused outcome) ⌝ }
 {
