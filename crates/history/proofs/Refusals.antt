@@ -1,17 +1,17 @@
 -- A refused call changes nothing, whatever the register holds.
 use Prim.Native.Nat.{ℕ}
 use native.Mathlib.Omega.{arith}
-use mathlib.Core.List.{List}
+use mathlib.Core.Bool.{true}
 use mathlib.Core.Path.{_≡_, refl}
 use lib.IntN.{ℤ}
 use Rattle.outcome.specs.declared.Outcome.{Outcome}
 use Rattle.outcome.specs.declared.Outcome.the-variants.{Accepted, Refused}
+use Rattle.outcome.specs.Tests.{isRefused}
 use Rattle.register.specs.declared.Register.{Register}
 use Rattle.calls.specs.declared.Mark.{Mark}
 use Rattle.calls.specs.declared.Mark.the-variants.{Known, New, Absent}
 use Rattle.register.specs.Filing as Filing
-use Rattle.register.specs.Filing.{modelBy, deliveryBy}
-use Rattle.filing.specs.Outcomes.{modelOutcome, fileOf, deliveryOutcome}
+use Rattle.register.proofs.Keeps.{model-keeps, delivery-keeps}
 use Rattle.calls.specs.Calls.{Call, clear, fileModel, fileDelivery, upper, lower, meanSteps, margin, live, refused}
 use Rattle.calls.specs.Answers.{modelReply, markReply, deliveryReply}
 use Rattle.history.specs.Run.{afterCall, replyOf}
@@ -23,21 +23,20 @@ mark-not-refused Known e = let z : _≡_ {A = ℕ} 0 1 = cc in omega arith
 mark-not-refused New e = let z : _≡_ {A = ℕ} 0 1 = cc in omega arith
 mark-not-refused Absent e = let z : _≡_ {A = ℕ} 0 1 = cc in omega arith
 
-model-keeps : (o : Outcome) (r : Register) (b : List ℕ) {n i : ℕ} {k : ℤ} → modelReply (modelBy o r b .outcome) ≡ refused n i k
-    → modelBy o r b .register ≡ r
-model-keeps Accepted r b e = let z : _≡_ {A = ℕ} 0 1 = cc in absurd (omega arith)
-model-keeps (Refused x j l) r b e = refl
+-- A reply that refuses is that of a refused outcome.
+model-refused : (o : Outcome) {n i : ℕ} {k : ℤ} → modelReply o ≡ refused n i k → isRefused o ≡ true
+model-refused Accepted e = let z : _≡_ {A = ℕ} 0 1 = cc in absurd (omega arith)
+model-refused (Refused x j l) e = refl
 
-delivery-keeps : (o : Outcome) (r : Register) (b d : List ℕ) {n i : ℕ} {k : ℤ}
-    → deliveryReply (deliveryBy o r b d .outcome) (deliveryBy o r b d .mark) ≡ refused n i k → deliveryBy o r b d .register ≡ r
-delivery-keeps Accepted r b d e = absurd (mark-not-refused (deliveryBy Accepted r b d .mark) e)
-delivery-keeps (Refused x j l) r b d e = refl
+delivery-refused : (o : Outcome) (m : Mark) {n i : ℕ} {k : ℤ} → deliveryReply o m ≡ refused n i k → isRefused o ≡ true
+delivery-refused Accepted m e = absurd (mark-not-refused m e)
+delivery-refused (Refused x j l) m e = refl
 
 pub refused-keeps : (r : Register) (c : Call) → RefusedKeeps r c
-unfolding afterCall replyOf Filing.fileModel Filing.fileDelivery
+unfolding afterCall replyOf
 refused-keeps r clear n i k e = let z : _≡_ {A = ℕ} 0 1 = cc in absurd (omega arith)
-refused-keeps r (fileModel b) n i k e = model-keeps (modelOutcome (r .model .length) b) r b e
-refused-keeps r (fileDelivery d) n i k e = delivery-keeps (deliveryOutcome (r .model) d) r (fileOf (r .model)) d e
+refused-keeps r (fileModel b) n i k e = model-keeps r b (model-refused (Filing.fileModel r b .outcome) e)
+refused-keeps r (fileDelivery d) n i k e = delivery-keeps r d (delivery-refused (Filing.fileDelivery r d .outcome) (Filing.fileDelivery r d .mark) e)
 refused-keeps r (upper p z q) n i k e = refl
 refused-keeps r (lower p z q) n i k e = refl
 refused-keeps r (meanSteps p z) n i k e = refl
