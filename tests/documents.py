@@ -43,13 +43,13 @@ def names_in(path):
     return {name for pair in DECLARED.findall(text) for name in pair if name}
 
 
-SOURCES = [path for part in ("specs/*.antt", "proofs/*.antt", "src/*.rt") for path in sorted((ROOT / "crates").glob("*/" + part))]
+SOURCES = [path for part in ("specs/*.antt", "proofs/**/*.antt", "src/*.rt") for path in sorted((ROOT / "crates").glob("*/" + part))]
 DEFINED = {path: names_in(path) for path in SOURCES}
 
 
 def anywhere(part, name):
     """Whether some file of this part of a crate defines the name."""
-    return any(name in names for path, names in DEFINED.items() if path.parent.name == part)
+    return any(name in names for path, names in DEFINED.items() if path.relative_to(ROOT / "crates").parts[1] == part)
 
 
 class Block:
