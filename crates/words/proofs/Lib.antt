@@ -1,2 +1,3 @@
--- The laws of numbers in files.
+-- The table of numbers in files, and their laws.
+pub mod Edges
 pub mod Words

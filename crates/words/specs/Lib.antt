@@ -1,2 +1,3 @@
--- Numbers in files.
+-- Numbers in files, and a table of them by their bytes.
 pub mod Words
+pub mod Edges
