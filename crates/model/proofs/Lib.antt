@@ -1,4 +1,6 @@
--- The laws of a model file: its limits, its records and rows, what an accepted one gives, and files made of rules.
+-- The table of records by their bytes, and the laws of a model file: its limits, its records and rows, what an accepted one gives, and files made of
+-- rules.
+pub mod Edges
 pub mod Limits
 pub mod Records
 pub mod Rows
