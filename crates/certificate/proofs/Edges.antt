@@ -13,7 +13,7 @@ use Rattle.ppda.specs.Rules.{fits, overRow, rule, one, two}
 use Rattle.ppda.specs.W.{w}
 use Rattle.ppda.specs.Equations.{f, meanSide}
 use Rattle.ppda.specs.Live.{mark, isLive, alive, Live}
-use Rattle.ppda.specs.Margin.{share, shareAt, margin}
+use Rattle.ppda.specs.Margin.{share, shareAt, margin, kept, whole}
 use Rattle.model.specs.Records.{recordsOf, field, weight, statesOf, symbolsOf}
 use Rattle.model.specs.Rules.{ruleOf, rulesOf, rowOf, rowSum}
 use Rattle.wellformed.specs.Verdict.{wholeRecords, rangeAt, unusedAt, weightAt, ascends, recordTests, rowTests, rowsTests, modelTests, modelVerdict}
@@ -24,13 +24,14 @@ use Rattle.delivery.specs.Shapes.{meansFrom, recordsIn, longAs, lowersOrMeans, 
 use Rattle.delivery.specs.Numbers.{uppersOf, lowersOf, meansOf}
 use Rattle.layout.specs.Layout as layout
 use Rattle.verdict.specs.Verdict as verdict
+use Rattle.verdict.specs.Marks.{liveMark}
 use Rattle.delivery.specs.Records.{isDue, inRange}
 use Rattle.layout.specs.Layout.{upperRecords, lowerRecords, meanRecords, layoutTests}
 use Rattle.walks.specs.Order.{eachEntry, eachRow}
 use Rattle.inequalities.specs.Inequalities.{deadTest, upperTest, belowTest, lowerTest, meanTest, deadTests, upperTests, belowTests, lowerTests, meanTests}
 use Rattle.verdict.specs.Verdict.{numberTests, shapedTests, deliveryTests}
 use Rattle.certificate.specs.Margin.{marginOf, shownMargin}
-use Rattle.certificate.specs.Edges.{zToZ, AllHold, wDelivery, edges, answerTo, dueTo, badInputs, failTwice, placesAndEnds, greatest, lastUpper}
+use Rattle.certificate.specs.Edges.{oneRule, zToZ, AllHold, wDelivery, edges, margins, answerTo, dueTo, badInputs, failTwice, placesAndEnds, greatest, lastUpper, fourthBytes, longest, fileOrder}
 use Rattle.model.proofs.Accepted.{is-model}
 use Rattle.wellformed.proofs.Accepted.{model-accepted}
 use Rattle.verdict.proofs.Accepted.{dead-exactly}
@@ -81,6 +82,11 @@ edges-hold = (
   ),
 )
 
+-- So do the margins.
+pub margins-hold : AllHold margins
+unfolding first each wordAt sign sum sumTo leastTo fits overRow f meanSide mark isLive alive share shareAt margin recordsOf field weight greatestTo statesOf symbolsOf ruleOf listTo rulesOf rowOf rowSum wholeRecords rangeAt unusedAt weightAt ascends recordTests rowTests rowsTests modelTests modelVerdict byteOf valueAt meansFrom recordsIn longAs lowersOrMeans shapeOf uppersOf lowersOf meansOf eachEntry eachRow isDue inRange layout.recordTests deadTest upperTest belowTest lowerTest meanTest upperRecords lowerRecords meanRecords deadTests upperTests belowTests lowerTests meanTests layoutTests numberTests shapedTests deliveryTests verdict.verdict marginOf shownMargin
+margins-hold = (refl, (refl, (refl, (refl, tt))))
+
 -- Bad input gets the answer that is due.
 pub bad-inputs-answered : map answerTo badInputs ≡ map dueTo badInputs
 unfolding first each wordAt sign sum sumTo leastTo fits overRow f meanSide mark isLive alive share shareAt margin recordsOf field weight greatestTo statesOf symbolsOf ruleOf listTo rulesOf rowOf rowSum wholeRecords rangeAt unusedAt weightAt ascends recordTests rowTests rowsTests modelTests modelVerdict byteOf valueAt meansFrom recordsIn longAs lowersOrMeans shapeOf uppersOf lowersOf meansOf eachEntry eachRow isDue inRange layout.recordTests deadTest upperTest belowTest lowerTest meanTest upperRecords lowerRecords meanRecords deadTests upperTests belowTests lowerTests meanTests layoutTests numberTests shapedTests deliveryTests verdict.verdict marginOf shownMargin
@@ -106,6 +112,21 @@ pub last-upper-answered : map answerTo lastUpper ≡ map dueTo lastUpper
 unfolding first each wordAt sign sum sumTo leastTo fits overRow f meanSide mark isLive alive share shareAt margin recordsOf field weight greatestTo statesOf symbolsOf ruleOf listTo rulesOf rowOf rowSum wholeRecords rangeAt unusedAt weightAt ascends recordTests rowTests rowsTests modelTests modelVerdict byteOf valueAt meansFrom recordsIn longAs lowersOrMeans shapeOf uppersOf lowersOf meansOf eachEntry eachRow isDue inRange layout.recordTests deadTest upperTest belowTest lowerTest meanTest upperRecords lowerRecords meanRecords deadTests upperTests belowTests lowerTests meanTests layoutTests numberTests shapedTests deliveryTests verdict.verdict marginOf shownMargin
 last-upper-answered = refl
 
+-- So do numbers with a fourth byte.
+pub fourth-bytes-answered : map answerTo fourthBytes ≡ map dueTo fourthBytes
+unfolding first each wordAt sign sum sumTo leastTo fits overRow f meanSide mark isLive alive share shareAt margin recordsOf field weight greatestTo statesOf symbolsOf ruleOf listTo rulesOf rowOf rowSum wholeRecords rangeAt unusedAt weightAt ascends recordTests rowTests rowsTests modelTests modelVerdict byteOf valueAt meansFrom recordsIn longAs lowersOrMeans shapeOf uppersOf lowersOf meansOf eachEntry eachRow isDue inRange layout.recordTests deadTest upperTest belowTest lowerTest meanTest upperRecords lowerRecords meanRecords deadTests upperTests belowTests lowerTests meanTests layoutTests numberTests shapedTests deliveryTests verdict.verdict marginOf shownMargin
+fourth-bytes-answered = refl
+
+-- So do the longest files.
+pub longest-answered : map answerTo longest ≡ map dueTo longest
+unfolding first each wordAt sign sum sumTo leastTo fits overRow f meanSide mark isLive alive share shareAt margin recordsOf field weight greatestTo statesOf symbolsOf ruleOf listTo rulesOf rowOf rowSum wholeRecords rangeAt unusedAt weightAt ascends recordTests rowTests rowsTests modelTests modelVerdict byteOf valueAt meansFrom recordsIn longAs lowersOrMeans shapeOf uppersOf lowersOf meansOf eachEntry eachRow isDue inRange layout.recordTests deadTest upperTest belowTest lowerTest meanTest upperRecords lowerRecords meanRecords deadTests upperTests belowTests lowerTests meanTests layoutTests numberTests shapedTests deliveryTests verdict.verdict marginOf shownMargin
+longest-answered = refl
+
+-- So do failures in file order, and further shapes.
+pub file-order-answered : map answerTo fileOrder ≡ map dueTo fileOrder
+unfolding first each wordAt sign sum sumTo leastTo fits overRow f meanSide mark isLive alive share shareAt margin recordsOf field weight greatestTo statesOf symbolsOf ruleOf listTo rulesOf rowOf rowSum wholeRecords rangeAt unusedAt weightAt ascends recordTests rowTests rowsTests modelTests modelVerdict byteOf valueAt meansFrom recordsIn longAs lowersOrMeans shapeOf uppersOf lowersOf meansOf eachEntry eachRow isDue inRange layout.recordTests deadTest upperTest belowTest lowerTest meanTest upperRecords lowerRecords meanRecords deadTests upperTests belowTests lowerTests meanTests layoutTests numberTests shapedTests deliveryTests verdict.verdict marginOf shownMargin
+file-order-answered = refl
+
 -- The records of two rules, with different symbols pushed.
 pub rules-said : rulesOf (modelRecord 1 2 3 2 4 5 65536 ++ modelRecord 1 2 3 1 4 0 7) ≡ rule 1 2 3 (two 4 5) 65536 ∷ rule 1 2 3 (one 4) 7 ∷ []
 unfolding rulesOf listTo ruleOf recordsOf field weight wordAt
@@ -126,3 +147,13 @@ pub w-numbers : listTo (valueAt (wDelivery 524288 512)) 10
     ≡ 655360 ∷ 524288 ∷ 0 ∷ 1179648 ∷ 524288 ∷ 393216 ∷ 0 ∷ 1048576 ∷ 512 ∷ 256 ∷ []
 unfolding listTo valueAt wordAt
 w-numbers = refl
+
+-- The one entry of a model is marked live where the stack can be emptied, and nothing of a refused model is.
+pub marks-shown : (liveMark (oneRule 65536) 0 0 0 ≡ 1) × (liveMark zToZ 0 0 0 ≡ 0) × (liveMark (oneRule 65535) 0 0 0 ≡ 0)
+unfolding first each wordAt sign sum sumTo leastTo fits overRow f meanSide mark isLive alive share shareAt margin recordsOf field weight greatestTo statesOf symbolsOf ruleOf listTo rulesOf rowOf rowSum wholeRecords rangeAt unusedAt weightAt ascends recordTests rowTests rowsTests modelTests modelVerdict byteOf valueAt meansFrom recordsIn longAs lowersOrMeans shapeOf uppersOf lowersOf meansOf eachEntry eachRow isDue inRange layout.recordTests deadTest upperTest belowTest lowerTest meanTest upperRecords lowerRecords meanRecords deadTests upperTests belowTests lowerTests meanTests layoutTests numberTests shapedTests deliveryTests liveMark
+marks-shown = (refl, refl, refl)
+
+-- 1 − m in mission point 3 for W's margin, and for a margin of 0, where m is 1/2^57.
+pub margins-kept : (kept 45875 ≡ 1002701) × (whole 45875 ≡ 1048576) × (kept 0 ≡ 144115188075855871) × (whole 0 ≡ 144115188075855872)
+unfolding kept
+margins-kept = (refl, refl, refl, refl)

@@ -1,10 +1,10 @@
--- The starred edges of document 01 ("Edges"), as one table of cases over the definitions; and tables of bad input, of files that fail twice, and
--- of the ends of ranges. Outcomes stand by document 01's numbers.
+-- The starred edges of document 01 ("Edges"), as one table of cases over the definitions; and tables of margins, of bad input, of files that fail
+-- twice, of the ends of ranges and numbers, and of the order of files. Outcomes stand by document 01's numbers.
 use Prim.Native.Nat.{ℕ}
 use mathlib.Core.List.{List, [], _∷_, _++_}
 use mathlib.Core.Path.{_≡_}
 use lib.IntN.{ℤ, pos, negsuc}
-use lib.ListN.{take}
+use lib.ListN.{take, replicate}
 use Rattle.outcome.specs.declared.Outcome.{Outcome}
 use Rattle.outcome.specs.declared.Outcome.the-variants.{Accepted, Refused}
 use Rattle.outcome.specs.Reasons.{numberOf}
@@ -91,6 +91,21 @@ edges =
     ∷ case zToZ [] (isDead 0 0 0)
     ∷ []
 
+-- The uppers and lowers of document 01 for W, with the last upper left open.
+abbrev pub wLast : ℕ → List ℕ
+wLast u =
+    deliveryRecord 85 0 0 0 655360 ++ (deliveryRecord 85 0 0 1 524288 ++ (deliveryRecord 85 1 0 0 0 ++ (deliveryRecord 85 1 0 1 u
+    ++ (deliveryRecord 76 0 0 0 524288 ++ (deliveryRecord 76 0 0 1 393216 ++ (deliveryRecord 76 1 0 0 0 ++ deliveryRecord 76 1 0 1 1048576))))))
+
+-- Margins: the least share in the middle (17161.69…) and at the end (30509.67…), both rounded down; a share below 1/2^20; nothing live.
+abbrev pub margins : List Case
+margins =
+    case wFile (wDelivery 480000 512) (marginIs 17161)
+    ∷ case wFile (wLast 1080000) (marginIs 30509)
+    ∷ case (oneRule 65536) (deliveryRecord 85 0 0 0 1048577 ++ deliveryRecord 76 0 0 0 256) (marginIs 0)
+    ∷ case zToZ (deliveryRecord 85 0 0 0 0 ++ deliveryRecord 76 0 0 0 0) (marginIs 1048576)
+    ∷ []
+
 -- Two files and the answer that is due.
 pub record Input : Type 0 where
   pub model : List ℕ
@@ -126,6 +141,7 @@ badInputs =
     ∷ input (modelRecord 0 0 0 2 0 16 65536) [] (refusedAt 11 0)
     ∷ input (modelRecord 0 0 0 0 16 1 0) [] (refusedAt 11 0)
     ∷ input (modelRecord 0 0 0 0 1 0 65536) [] (refusedAt 12 0)
+    ∷ input (modelRecord 0 0 0 0 0 1 65536) [] (refusedAt 12 0)
     ∷ input (modelRecord 0 0 0 1 0 1 65536) [] (refusedAt 12 0)
     ∷ input (oneRule 0) [] (refusedAt 13 0)
     ∷ input (oneRule 65537) [] (refusedAt 13 0)
@@ -195,13 +211,76 @@ placesAndEnds =
 abbrev pub greatest : List Input
 greatest = input (modelRecord 7 15 7 2 15 15 65536) [] (refusedAt 15 0) ∷ []
 
--- Two states and two symbols: the last of the eight uppers.
+-- Two states and two symbols, of which every rule ends in state 0.
+abbrev pub allToZero : List ℕ
+allToZero =
+    modelRecord 0 0 0 0 0 0 65536 ++ (modelRecord 0 1 0 0 0 0 65536
+    ++ (modelRecord 1 0 0 0 0 0 65536 ++ modelRecord 1 1 0 0 0 0 65536))
+
+-- The last of its eight uppers.
 abbrev pub lastUpper : List Input
 lastUpper =
-    input
-    (modelRecord 0 0 0 0 0 0 65536 ++ (modelRecord 0 1 0 0 0 0 65536
-    ++ (modelRecord 1 0 0 0 0 0 65536 ++ modelRecord 1 1 0 0 0 0 65536)))
+    input allToZero
     (deliveryRecord 85 0 0 0 0 ++ (deliveryRecord 85 0 0 1 0 ++ (deliveryRecord 85 0 1 0 0 ++ (deliveryRecord 85 0 1 1 0
     ++ (deliveryRecord 85 1 0 0 0 ++ (deliveryRecord 85 1 0 1 0 ++ (deliveryRecord 85 1 1 0 0 ++ deliveryRecord 85 1 1 1 2097153)))))))
     (refusedAt 22 7)
+    ∷ []
+
+-- Numbers whose fourth byte is not 0. Without it most of them would be in range.
+abbrev pub fourthBytes : List Input
+fourthBytes =
+    input (oneRule 16777216) [] (refusedAt 13 0)
+    ∷ input (oneRule 2147483648) [] (refusedAt 13 0)
+    ∷ input (oneRule 16842752) [] (refusedAt 13 0)
+    ∷ input zToZ (deliveryRecord 85 0 0 0 16777216) (refusedAt 22 0)
+    ∷ input zToZ (deliveryRecord 85 0 0 0 2147483648) (refusedAt 22 0)
+    ∷ input zToZ (deliveryRecord 85 0 0 0 0 ++ deliveryRecord 76 0 0 0 16777216) (refusedAt 22 1)
+    ∷ input (oneRule 65536) (deliveryRecord 85 0 0 0 1048577 ++ deliveryRecord 82 0 0 0 16777472) (refusedAt 22 1)
+    ∷ []
+
+-- Files of 10,240 bytes, which are read, of one byte more and of a record more.
+abbrev pub longest : List Input
+longest =
+    input (replicate 10240 0) [] (refusedAt 13 0)
+    ∷ input (replicate 10241 0) [] (refusedAt 10 0)
+    ∷ input (replicate 10250 0) [] (refusedAt 10 0)
+    ∷ []
+
+-- Three symbols, of which 0 pushes 1 over 2: the mean steps of what lies under are weighed by the upper of what lies over it.
+abbrev pub overUnder : List ℕ
+overUnder = modelRecord 0 0 0 2 1 2 65536 ++ (modelRecord 0 1 0 0 0 0 65536 ++ modelRecord 0 2 0 0 0 0 65536)
+
+abbrev pub overUnderSteps : ℕ → List ℕ
+overUnderSteps r =
+    deliveryRecord 85 0 0 0 1572864 ++ (deliveryRecord 85 0 1 0 1572864 ++ (deliveryRecord 85 0 2 0 1048576
+    ++ (deliveryRecord 82 0 0 0 r ++ (deliveryRecord 82 0 1 0 256 ++ deliveryRecord 82 0 2 0 256))))
+
+-- A delivery for two states and two symbols, with the uppers of (0, 0, 1), (0, 1, 0), (0, 1, 1), (1, 0, 0) and (1, 0, 1) left open, and the mean steps
+-- of (0, 1) and (1, 0).
+abbrev pub fourRows : ℕ → ℕ → ℕ → ℕ → ℕ → ℕ → ℕ → List ℕ
+fourRows b c d e f r s =
+    deliveryRecord 85 0 0 0 1048576 ++ (deliveryRecord 85 0 0 1 b ++ (deliveryRecord 85 0 1 0 c ++ (deliveryRecord 85 0 1 1 d
+    ++ (deliveryRecord 85 1 0 0 e ++ (deliveryRecord 85 1 0 1 f ++ (deliveryRecord 85 1 1 0 1048576 ++ (deliveryRecord 85 1 1 1 0
+    ++ (deliveryRecord 82 0 0 0 256 ++ (deliveryRecord 82 0 1 0 r ++ (deliveryRecord 82 1 0 0 s ++ deliveryRecord 82 1 1 0 256))))))))))
+
+-- Of two failures of one kind the first in file order is named, by p before Z and by Z before q; records ascend by L before Y; mean steps without
+-- lowers; all blocks for one state; and what is pushed over another symbol.
+abbrev pub fileOrder : List Input
+fileOrder =
+    input allToZero (fourRows 0 1048576 0 1048576 0 256 256) accepted
+    ∷ input allToZero (fourRows 2097153 2097153 0 1048576 0 256 256) (refusedAt 22 1)
+    ∷ input allToZero (fourRows 0 1048576 0 1048576 0 255 255) (refusedAt 22 9)
+    ∷ input allToZero (fourRows 1 1048576 1 1048576 1 256 256) (refusedAt 23 1)
+    ∷ input allToZero (fourRows 0 1048576 1 1048576 1 256 256) (refusedAt 23 3)
+    ∷ input allToZero (fourRows 0 1048575 0 1048575 0 256 256) (refused 24 2 (negsuc 68719476735))
+    ∷ input (modelRecord 0 0 0 1 1 0 32768 ++ modelRecord 0 0 0 2 0 0 32768) [] (refusedAt 15 1)
+    ∷ input wFile
+    (deliveryRecord 85 0 0 0 655360 ++ (deliveryRecord 85 0 0 1 524288 ++ (deliveryRecord 85 1 0 0 0 ++ (deliveryRecord 85 1 0 1 1179648
+    ++ (deliveryRecord 82 0 0 0 485 ++ deliveryRecord 82 1 0 0 256)))))
+    (refused 27 4 (negsuc 2147483647))
+    ∷ input (oneState 49152 16384)
+    (deliveryRecord 85 0 0 0 1052672 ++ (deliveryRecord 76 0 0 0 1048574 ++ deliveryRecord 82 0 0 0 514))
+    accepted
+    ∷ input overUnder (overUnderSteps 896) accepted
+    ∷ input overUnder (overUnderSteps 895) (refused 27 3 (negsuc 68719476735))
     ∷ []
