@@ -30,14 +30,14 @@ AllReplied past (e ∷ es) = (plainReply (pairOf past) (e .call) ≡ e .reply) �
 abbrev pub Replied : List Event → Type 0
 Replied es = replies Filing.cleared (map callOf es) ≡ map replyDue es
 
--- Deliveries for W: the uppers alone, with the last one open; with lowers; with mean steps.
-abbrev pub uppersFileWith : ℕ → List ℕ
-uppersFileWith u =
-    deliveryRecord 85 0 0 0 655360 ++ (deliveryRecord 85 0 0 1 524288
+-- Deliveries for W: the uppers alone, with the first and the last one open; with lowers; with mean steps.
+abbrev pub uppersFileWith : ℕ → ℕ → List ℕ
+uppersFileWith a u =
+    deliveryRecord 85 0 0 0 a ++ (deliveryRecord 85 0 0 1 524288
     ++ (deliveryRecord 85 1 0 0 0 ++ deliveryRecord 85 1 0 1 u))
 
 abbrev pub uppersFile : List ℕ
-uppersFile = uppersFileWith 1179648
+uppersFile = uppersFileWith 655360 1179648
 
 abbrev pub lowersFile : List ℕ
 lowersFile =
@@ -79,7 +79,7 @@ modelExchanges =
     ∷ due (live 1 0 1) (value 1)
     ∷ []
 
--- Uppers alone: 44 before 43, 43 for lowers, margin and mean steps. A delivery is new where any upper differs, the last too.
+-- Uppers alone: 44 before 43, 43 for lowers, margin and mean steps. A delivery is new where any upper differs, the first and the last too.
 abbrev pub upperExchanges : List Event
 upperExchanges =
     due (fileModel wFile) accepted
@@ -95,8 +95,10 @@ upperExchanges =
     ∷ due (meanSteps 0 0) (refusal 43)
     ∷ due margin (refusal 43)
     ∷ due (live 1 0 1) (value 1)
-    ∷ due (fileDelivery (uppersFileWith 1179647)) new
+    ∷ due (fileDelivery (uppersFileWith 655360 1179647)) new
     ∷ due (upper 1 0 1) (value 1179647)
+    ∷ due (fileDelivery (uppersFileWith 655361 1179647)) new
+    ∷ due (upper 0 0 0) (value 655361)
     ∷ due (fileDelivery uppersFile) new
     ∷ []
 

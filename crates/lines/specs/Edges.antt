@@ -1,5 +1,5 @@
 -- Lines as they are printed, byte by byte: the words, the spaces, decimal numbers of every length, `-` and signs. They hold the definitions of numbers and
--- lines to document 01's printout and to the far ends of refusals.
+-- lines to document 01's printout, to the far ends of refusals and to the greatest numbers of 64 bits.
 use Prim.Native.Nat.{ℕ}
 use mathlib.Core.List.{List, [], _∷_}
 use lib.IntN.{pos, negsuc}
@@ -42,6 +42,8 @@ lines =
     ∷ prints (stepsLine 0 0 512) (115 ∷ 116 ∷ 101 ∷ 112 ∷ 115 ∷ 32 ∷ 48 ∷ 32 ∷ 48 ∷ 32 ∷ 53 ∷ 49 ∷ 50 ∷ 10 ∷ [])
     -- steps 7 15 4194304
     ∷ prints (stepsLine 7 15 4194304) (115 ∷ 116 ∷ 101 ∷ 112 ∷ 115 ∷ 32 ∷ 55 ∷ 32 ∷ 49 ∷ 53 ∷ 32 ∷ 52 ∷ 49 ∷ 57 ∷ 52 ∷ 51 ∷ 48 ∷ 52 ∷ 10 ∷ [])
+    -- steps 0 0 18446744073709551615
+    ∷ prints (stepsLine 0 0 18446744073709551615) (115 ∷ 116 ∷ 101 ∷ 112 ∷ 115 ∷ 32 ∷ 48 ∷ 32 ∷ 48 ∷ 32 ∷ 49 ∷ 56 ∷ 52 ∷ 52 ∷ 54 ∷ 55 ∷ 52 ∷ 52 ∷ 48 ∷ 55 ∷ 51 ∷ 55 ∷ 48 ∷ 57 ∷ 53 ∷ 53 ∷ 49 ∷ 54 ∷ 49 ∷ 53 ∷ 10 ∷ [])
     -- refused 10 0 0
     ∷ prints (refusedLine 10 0 (pos 0)) (114 ∷ 101 ∷ 102 ∷ 117 ∷ 115 ∷ 101 ∷ 100 ∷ 32 ∷ 49 ∷ 48 ∷ 32 ∷ 48 ∷ 32 ∷ 48 ∷ 10 ∷ [])
     -- refused 24 1 -30064771072
@@ -50,4 +52,6 @@ lines =
     ∷ prints (refusedLine 27 2175 (negsuc 68719476735)) (114 ∷ 101 ∷ 102 ∷ 117 ∷ 115 ∷ 101 ∷ 100 ∷ 32 ∷ 50 ∷ 55 ∷ 32 ∷ 50 ∷ 49 ∷ 55 ∷ 53 ∷ 32 ∷ 45 ∷ 54 ∷ 56 ∷ 55 ∷ 49 ∷ 57 ∷ 52 ∷ 55 ∷ 54 ∷ 55 ∷ 51 ∷ 54 ∷ 10 ∷ [])
     -- refused 24 0 -2161447445672755200
     ∷ prints (refusedLine 24 0 (negsuc 2161447445672755199)) (114 ∷ 101 ∷ 102 ∷ 117 ∷ 115 ∷ 101 ∷ 100 ∷ 32 ∷ 50 ∷ 52 ∷ 32 ∷ 48 ∷ 32 ∷ 45 ∷ 50 ∷ 49 ∷ 54 ∷ 49 ∷ 52 ∷ 52 ∷ 55 ∷ 52 ∷ 52 ∷ 53 ∷ 54 ∷ 55 ∷ 50 ∷ 55 ∷ 53 ∷ 53 ∷ 50 ∷ 48 ∷ 48 ∷ 10 ∷ [])
+    -- refused 24 0 -9223372036854775808
+    ∷ prints (refusedLine 24 0 (negsuc 9223372036854775807)) (114 ∷ 101 ∷ 102 ∷ 117 ∷ 115 ∷ 101 ∷ 100 ∷ 32 ∷ 50 ∷ 52 ∷ 32 ∷ 48 ∷ 32 ∷ 45 ∷ 57 ∷ 50 ∷ 50 ∷ 51 ∷ 51 ∷ 55 ∷ 50 ∷ 48 ∷ 51 ∷ 54 ∷ 56 ∷ 53 ∷ 52 ∷ 55 ∷ 55 ∷ 53 ∷ 56 ∷ 48 ∷ 56 ∷ 10 ∷ [])
     ∷ []
