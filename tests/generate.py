@@ -70,7 +70,7 @@ def documented_edges():
     yield "row sum", model_file([(0, 0, 0, 0, 0, 0, 65535)]), b"", (15, 0, 0)
 
 
-# The far ends: the last places of the largest files, the longest shortfalls, and a model in which nothing is live.
+# The far ends: the last places of the largest files, the longest shortfalls, a model in which nothing is live, and numbers with a fourth byte.
 
 def largest_model():
     """8 states, 16 symbols and 1,024 records: each row removes its symbol, going to each state, but the last pushes one symbol for state 7."""
@@ -101,6 +101,19 @@ def far_ends():
     yield "the greatest lower", certain, delivery_file(checker.table_of(certain), Figures([TOP], [TOP], None))
     loop = model_file([(0, 0, 0, 1, 0, 0, 65536)])
     yield "nothing live", loop, delivery_file(checker.table_of(loop), Figures([0], [0], None))
+    yield from fourth_bytes(certain, loop)
+
+
+def fourth_bytes(certain, loop):
+    """Numbers of which only the fourth byte is set, and numbers that would be in range without it."""
+    for weight in (1 << 24, 1 << 31, 65536 + (1 << 24)):
+        yield "weight %d" % weight, model_file([(0, 0, 0, 0, 0, 0, weight)]), b""
+    for value in (1 << 24, 1 << 31):
+        yield "upper %d" % value, loop, delivery_file(checker.table_of(loop), Figures([value], None, None))
+        yield "lower %d" % value, loop, delivery_file(checker.table_of(loop), Figures([0], [value], None))
+        yield "mean %d" % value, certain, delivery_file(checker.table_of(certain), Figures([ONE], None, [value]))
+    yield "upper %d" % (ONE + (1 << 24)), certain, delivery_file(checker.table_of(certain), Figures([ONE + (1 << 24)], None, None))
+    yield "mean %d" % (512 + (1 << 24)), certain, delivery_file(checker.table_of(certain), Figures([ONE], None, [512 + (1 << 24)]))
 
 
 # Random models.
@@ -260,7 +273,7 @@ def dead_up(rng, table, figures):
 def range_ends(rng, table, figures):
     """One value at an end of its range or 1 beyond."""
     field = rng.choice([name for name in Figures._fields if getattr(figures, name)])
-    ends = (MEAN_LEAST - 1, MEAN_LEAST, MEAN_TOP, MEAN_TOP + 1) if field == "mean" else (0, TOP, TOP + 1, 2**32 - 1)
+    ends = (MEAN_LEAST - 1, MEAN_LEAST, MEAN_TOP, MEAN_TOP + 1, MEAN_TOP + 2**24) if field == "mean" else (0, TOP, TOP + 1, 2**24, 2**32 - 1)
     values = list(getattr(figures, field))
     values[rng.randrange(len(values))] = rng.choice(ends)
     return figures._replace(**{field: values})
@@ -362,7 +375,7 @@ def weight_by_one(rng, records):
 
 
 def weight_range(rng, records):
-    return with_record(records, rng.randrange(len(records)), weight=rng.choice((0, 65536, 65537, 2**32 - 1)))
+    return with_record(records, rng.randrange(len(records)), weight=rng.choice((0, 65536, 65537, 65536 + 2**24, 2**32 - 1)))
 
 
 def weight_shifted(rng, records):

@@ -163,6 +163,14 @@ def value_before_head(table, shape, records):
     return None
 
 
+def weights_of_three_bytes(model):
+    return [rule._replace(weight=rule.weight % (1 << 24)) for rule in RIGHT["records_of"](model)]
+
+
+def values_of_three_bytes(table, shape, records):
+    return RIGHT["record_refusal"](table, shape, [(*record[:4], record[4] % (1 << 24)) for record in records])
+
+
 def all_live(table):
     return set(table.entries)
 
@@ -205,6 +213,8 @@ MUTANTS = {
     "22 before 21 in a record": {"record_refusal": value_before_head},
     "21 over the whole file before 22": {"record_refusal": heads_before_values},
     "every entry live": {"live_entries": all_live},
+    "weights read without their fourth byte": {"records_of": weights_of_three_bytes},
+    "values read without their fourth byte in 22": {"record_refusal": values_of_three_bytes},
 }
 
 

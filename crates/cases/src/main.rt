@@ -1,7 +1,7 @@
 // Runs the stored cases: for each number, the report on the files NNN.tab and NNN.cer of the working folder.
 
 // How many cases are stored.
-const CASES: u32 = 66;
+const CASES: u32 = 77;
 
 // The last digit of n, in ASCII.
 fn digit(n: u32) -> u8 {
