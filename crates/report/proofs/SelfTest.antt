@@ -19,6 +19,7 @@ use Rattle.calls.specs.Calls as calls
 use Rattle.calls.specs.Answers.{modelReply}
 use Rattle.history.specs.Run.{replyOf, replies}
 use Rattle.history.proofs.Edges.{exchanges-replied}
+use Rattle.report.specs.SelfTest.{filings, testFiled, passed}
 
 not-refused : (o : Outcome) → modelReply o ≡ calls.accepted → isRefused o ≡ false
 not-refused Accepted e = refl
@@ -32,9 +33,13 @@ cut-refused : isRefused (fileModel cleared (take 39 wFile) .outcome) ≡ true
 unfolding first wholeRecords modelTests modelVerdict holdsModel noModel cleared modelOutcome fileModel
 cut-refused = refl
 
--- What the code asks of the two filings.
-pub self-test-passes : {w : List ℕ} {e k : Register} {whole cut : Filed} {t u : Bool} → w ≡ wFile
-    → e ≡ cleared → whole ≡ fileModel e w → k ≡ cleared → cut ≡ fileModel k (take 39 w)
-    → t ≡ isRefused (whole .outcome) → u ≡ isRefused (cut .outcome) → not t && u ≡ true
-self-test-passes is-w none filed none′ filed′ said said′ =
-    rw (said, said′, filed, filed′, none, none′, is-w, whole-accepted, cut-refused)
+-- The self-test passes.
+pub self-test-passes : passed testFiled ≡ true
+unfolding testFiled
+self-test-passes = rw (whole-accepted, cut-refused)
+
+-- What the code files.
+pub filed-so : {w : List ℕ} {e k : Register} {whole cut : Filed} → w ≡ wFile → e ≡ cleared → whole ≡ fileModel e w → k ≡ cleared
+    → cut ≡ fileModel k (take 39 w) → filings whole cut ≡ testFiled
+unfolding testFiled
+filed-so is-w none filed none′ filed′ = rw (filed, filed′, none, none′, is-w)

@@ -6,8 +6,11 @@ use borrow.Author.Needs.{needs}
 use Rattle.showbounds.proofs.main.Statement.{statement}
 use Rattle.showbounds.proofs.main.Tie as tie
 
-passes-requires : tie.Need-passes-requires
-passes-requires c κs = search needs
+file-w-requires : tie.Need-file-w-requires
+file-w-requires c κs = search needs
+
+passed-requires : tie.Need-passed-requires
+passed-requires c κs = search needs
 
 returns : tie.Need-returns
 returns c = search needs
@@ -37,7 +40,8 @@ pub main-spec : {M : Type 1} → statement M
 main-spec =
     tie.close
     (tie.spec
-    passes-requires
+    file-w-requires
+    passed-requires
     returns
     slice-aggregate-report-on
     slice-aggregate-report-on-2

@@ -1,8 +1,8 @@
--- `passes`: a cleared register accepts W, and refuses W without its last byte.
+-- `file_w`: the two filings are those of the definition, which are made of the same table.
 use borrow.Author.Needs.{needs}
-use Rattle.report.proofs.SelfTest.{self-test-passes}
-use Rattle.report.proofs.self_test.passes.Statement.{statement}
-use Rattle.report.proofs.self_test.passes.Tie as tie
+use Rattle.report.proofs.SelfTest.{filed-so}
+use Rattle.report.proofs.self_test.file_w.Statement.{statement}
+use Rattle.report.proofs.self_test.file_w.Tie as tie
 
 w-requires : tie.Need-w-requires
 w-requires c κs = search needs
@@ -28,22 +28,15 @@ slice-aggregate-file-model-2 c = search needs
 file-model-requires-2 : tie.Need-file-model-requires-2
 file-model-requires-2 c κs = search needs
 
-is-refused-requires : tie.Need-is-refused-requires
-is-refused-requires c κs = search needs
-
-is-refused-requires-2 : tie.Need-is-refused-requires-2
-is-refused-requires-2 c κs = search needs
-
 returns : tie.Need-returns
 returns c =
-    let cut = c .before .before in
-    let whole = cut .before .before .before in
+    let whole = c .before .before .before in
     let empty = whole .before .before in
-    self-test-passes (empty .before .w .ensures) (empty .empty .ensures) (whole .file-model .ensures)
-    (cut .before .before .empty2 .ensures) (cut .file-model2 .ensures) (c .before .is-refused .ensures) (c .is-refused2 .ensures)
+    filed-so (empty .before .w .ensures) (empty .empty .ensures) (whole .file-model .ensures) (c .before .before .empty2 .ensures)
+    (c .file-model2 .ensures)
 
-pub passes-spec : {M : Type 1} → statement M
-passes-spec =
+pub file-w-spec : {M : Type 1} → statement M
+file-w-spec =
     tie.close
     (tie.spec
     w-requires
@@ -54,6 +47,4 @@ passes-spec =
     array-share-prefix-w
     slice-aggregate-file-model-2
     file-model-requires-2
-    is-refused-requires
-    is-refused-requires-2
     returns)
