@@ -106,14 +106,16 @@ def far_ends():
 
 def fourth_bytes(certain, loop):
     """Numbers of which only the fourth byte is set, and numbers that would be in range without it."""
-    for weight in (1 << 24, 1 << 31, 65536 + (1 << 24)):
+    def filed(model, *blocks):
+        return model, delivery_file(checker.table_of(model), Figures(*blocks))
+    for weight in (2**24, 2**31, 65536 + 2**24):
         yield "weight %d" % weight, model_file([(0, 0, 0, 0, 0, 0, weight)]), b""
-    for value in (1 << 24, 1 << 31):
-        yield "upper %d" % value, loop, delivery_file(checker.table_of(loop), Figures([value], None, None))
-        yield "lower %d" % value, loop, delivery_file(checker.table_of(loop), Figures([0], [value], None))
-        yield "mean %d" % value, certain, delivery_file(checker.table_of(certain), Figures([ONE], None, [value]))
-    yield "upper %d" % (ONE + (1 << 24)), certain, delivery_file(checker.table_of(certain), Figures([ONE + (1 << 24)], None, None))
-    yield "mean %d" % (512 + (1 << 24)), certain, delivery_file(checker.table_of(certain), Figures([ONE], None, [512 + (1 << 24)]))
+    for value in (2**24, 2**31):
+        yield "upper %d" % value, *filed(loop, [value], None, None)
+        yield "lower %d" % value, *filed(loop, [0], [value], None)
+        yield "mean %d" % value, *filed(certain, [ONE], None, [value])
+    yield "upper %d" % (ONE + 2**24), *filed(certain, [ONE + 2**24], None, None)
+    yield "mean %d" % (512 + 2**24), *filed(certain, [ONE], None, [512 + 2**24])
 
 
 # Random models.
