@@ -16,13 +16,14 @@ use Rattle.outcome.specs.Tests.{Test, refusal, isRefused, first, Passed,
 
 -- ---- one test in front
 
+-- A statement by the cases of a flag. A proof that goes by all cases of what a branch tests takes any test that comes out the same.
+pub by-cases : {P : Type 0} (b : Bool) → (b ≡ false → P) → (b ≡ true → P) → P
+by-cases true f t = t refl
+by-cases false f t = f refl
+
 -- A statement about a test by whether it fails.
 by-test : {P : Type 0} (t : Test) → (t .fails ≡ true → P) → (t .fails ≡ false → P) → P
-by-test {P} t failed passed = go (t .fails) refl
-  where
-    go : (b : Bool) → t .fails ≡ b → P
-    go true e = failed e
-    go false e = passed e
+by-test t failed passed = by-cases (t .fails) passed failed
 
 -- The first test decides if it fails.
 pub first-fails : (t : Test) (ts : List Test) → t .fails ≡ true → first (t ∷ ts) ≡ refusal t

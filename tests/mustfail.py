@@ -1,0 +1,115 @@
+"""Shows why the prover refuses the wrong programs that document 01 names: python3 tests/mustfail.py [WORD..]
+
+For each row of the table below it tries the must-fail edit and its harmless twin, which writes something of the same meaning into
+the same lines, on a copy of the crates. It prints the first error for the edit and whether the twin is accepted, as it must be:
+then the edit is refused for what it says, and not because its lines may not be touched. Words choose rows: a part of a label or of
+what the row stands for. The whole table takes some minutes; it is no part of ./test, which only asks that each edit is refused.
+"""
+import os
+import re
+import shutil
+import subprocess
+import sys
+import tempfile
+import textwrap
+from typing import NamedTuple
+
+ROOT = os.path.dirname(os.path.dirname(os.path.abspath(__file__)))
+WIDTH = 150
+MOST_LINES = 5  # of an error
+
+
+class Row(NamedTuple):
+    stands_for: str
+    label: str    # crate/edit
+    twin: tuple   # a new line for each that the edit has, in their order
+
+
+# Registers that have to break the contracts (document 01, "Conditions of acceptance", 3), then the mistakes of method.
+TABLE = [
+    Row("asks for the block before the place", "calls/block_missed_before_place",
+        ("if !(inside) & true {", "refused((Reason::NotOfModel))", "if !block | false {", "refused(Reason::NoBlock)")),
+]
+
+
+def edit_lines(label):
+    crate, name = label.split("/")
+    with open(os.path.join(ROOT, "crates", crate, "must-fail", name + ".edit")) as file:
+        return file.read().splitlines()
+
+
+def twin_lines(row):
+    """The edit with the twin's new lines."""
+    lines = edit_lines(row.label)
+    places = [i for i, line in enumerate(lines) if line.startswith("new:")]
+    if len(places) != len(row.twin):
+        sys.exit(f"{row.label}: the edit has {len(places)} new lines, and its twin {len(row.twin)}")
+    for i, new in zip(places, row.twin):
+        lines[i] = "new: " + new
+    return lines
+
+
+def make_copy(work, rows):
+    """The crates with the rows' edits and twins alone, and what is proved already."""
+    shutil.copytree(os.path.join(ROOT, "crates"), os.path.join(work, "crates"), ignore=shutil.ignore_patterns("must-fail"))
+    shutil.copy(os.path.join(ROOT, "crates.txt"), work)
+    for part in ("rlib", "stamp", "log"):
+        if os.path.isdir(os.path.join(ROOT, "target", part)):
+            shutil.copytree(os.path.join(ROOT, "target", part), os.path.join(work, "target", part))
+    for row in rows:
+        crate, name = row.label.split("/")
+        folder = os.path.join(work, "crates", crate, "must-fail")
+        os.makedirs(folder, exist_ok=True)
+        for file_name, lines in ((name, edit_lines(row.label)), (name + "-twin", twin_lines(row))):
+            with open(os.path.join(folder, file_name + ".edit"), "w") as file:
+                file.write("\n".join(lines) + "\n")
+
+
+def tried(work, label):
+    """What rt said of an edit: its word, and the log of the check."""
+    folder = os.path.join(work, "target", "must-fail", label)
+    with open(folder + ".out") as file:
+        said = file.read()
+    if "BAD EDIT" in said:
+        return said.strip(), ""
+    with open(os.path.join(folder, ".log")) as file:
+        log = file.read().replace(folder + "/", "")
+    return ("refused" if "refused, as it must be" in said else "accepted"), log
+
+
+def first_error(log):
+    """The first error, from its place to what differs, without the prefixes of modules."""
+    start = re.search(r"^\S+: error: ", log, re.M)
+    if not start:
+        return log[:400]
+    text = log[start.start():]
+    text = re.split(r"\n\S|\n  expected type", text, maxsplit=1)[0]
+    text = re.sub(r"\(?\b(?:Rattle·\w+(?:·\w+)?|mathlib|lib|borrow|denote|Prim)(?:\.[\w·-]+)*\.(?=[\w_])", "", text)
+    return re.sub(r"\s+", " ", text)
+
+
+def shown(row, edit, twin):
+    word, log = edit
+    lines = textwrap.wrap(first_error(log), WIDTH - 4) if word == "refused" else [f"NOT REFUSED: {word}"]
+    accepted = "accepted" if twin[0] == "accepted" else f"NOT ACCEPTED: {twin[0]}"
+    print(f"{row.label}: {row.stands_for}")
+    print("\n".join("    " + line for line in lines[:MOST_LINES]))
+    print(f"    twin {accepted}", flush=True)
+    if twin[0] == "refused":
+        print("\n".join("    " + line for line in textwrap.wrap(first_error(twin[1]), WIDTH - 4)[:MOST_LINES]), flush=True)
+    return word == "refused" and twin[0] == "accepted"
+
+
+def main():
+    rows = [row for row in TABLE if len(sys.argv) < 2 or any(word in row.label or word in row.stands_for for word in sys.argv[1:])]
+    with tempfile.TemporaryDirectory() as work:
+        make_copy(work, rows)
+        crates = sorted({row.label.split("/")[0] for row in rows})
+        subprocess.run(["rt", "must-fail", *crates], cwd=work, stdout=subprocess.DEVNULL, stderr=subprocess.DEVNULL)
+        right = [shown(row, tried(work, row.label), tried(work, row.label + "-twin")) for row in rows]
+    print(f"{len(rows)} edits refused and their twins accepted" if all(right) else f"{right.count(False)} of {len(rows)} rows are not as they must be")
+    sys.exit(0 if all(right) else 1)
+
+
+if __name__ == "__main__":
+    main()
