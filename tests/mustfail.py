@@ -27,6 +27,10 @@ class Row(NamedTuple):
 
 # Registers that have to break the contracts (document 01, "Conditions of acceptance", 3), then the mistakes of method.
 TABLE = [
+    Row("files nothing while reporting success: a delivery's numbers are those before", "register/keeps_the_former_numbers",
+        ("numbers: numbers,",)),
+    Row("checks the first delivery after a model and waves later ones through", "register/waves_later_deliveries_through",
+        ("if is_refused(found) & true {",)),
     Row("asks for the block before the place", "calls/block_missed_before_place",
         ("if !(inside) & true {", "refused((Reason::NotOfModel))", "if !block | false {", "refused(Reason::NoBlock)")),
 ]

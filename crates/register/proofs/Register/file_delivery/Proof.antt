@@ -1,13 +1,15 @@
 -- `file_delivery`: a delivery whose outcome is a refusal leaves the register as it is, and any other is filed beside its model.
 use Prim.Native.Nat.{_≤_}
 use native.Mathlib.Omega.{arith}
-use mathlib.Core.Path.{_≡_, sym, _∙_}
+use mathlib.Core.Bool.{false, true≢false, false≢true}
+use mathlib.Core.Path.{_≡_, refl, sym, _∙_}
 use lib.ListN.{length, take, length-map}
 use lib.Seq.{length-take-le}
 use denote.Ref.{now}
 use borrow.Author.Needs.{needs}
 use Rattle.outcome.specs.declared.Outcome.the-variants.{Accepted}
-use Rattle.outcome.proofs.Tests.{not-refused}
+use Rattle.outcome.specs.Tests.{isRefused}
+use Rattle.outcome.proofs.Tests.{by-cases, not-refused}
 use Rattle.model.specs.Accepted.{Sized}
 use Rattle.verdict.specs.Verdict.{verdict}
 use Rattle.model.specs.Format.{mostBytes}
@@ -20,12 +22,16 @@ use Rattle.register.proofs.Steps.{delivery-turned-away, delivery-filed}
 use Rattle.register.proofs.Register.file_delivery.Statement.{statement}
 use Rattle.register.proofs.Register.file_delivery.Tie as tie
 
--- Past the test the delivery is accepted.
+-- Past the test the delivery is not refused, so that it is accepted.
+not-turned-away : (c : tie.Else1) → isRefused (c .before .before .delivery-outcome .result) ≡ false
+not-turned-away c =
+    by-cases (c .before .is-refused .result)
+    (λ e. sym (c .before .is-refused .ensures) ∙ e)
+    (λ e. absurd (true≢false (rw e at (c .if1 .left))))
+
 passed : (c : tie.Else1) → let args = c .before .before .before .before .before .before .before .args in
     deliveryOutcome (args .self .model) (now (args .file)) ≡ Accepted
-passed c =
-    let tested = c .before in
-    sym (tested .before .delivery-outcome .ensures) ∙ not-refused _ (sym (tested .is-refused .ensures) ∙ c .if1 .left)
+passed c = sym (c .before .before .delivery-outcome .ensures) ∙ not-refused _ (not-turned-away c)
 
 accepted : (c : tie.Else1) → let args = c .before .before .before .before .before .before .before .args in
     verdict (take (args .self .model .length) (args .self .model .bytes)) (now (args .file)) ≡ Accepted
@@ -58,8 +64,9 @@ delivery-refused-requires c κs = search needs
 returns : tie.Need-returns
 returns c =
     let tested = c .before .before in
-    c .delivery-refused .ensures
-    ∙ delivery-turned-away _ _ (tested .before .delivery-outcome .ensures) (sym (tested .is-refused .ensures) ∙ c .before .if1 .taken)
+    by-cases (tested .is-refused .result)
+    (λ e. absurd (false≢true (rw e at (c .before .if1 .taken))))
+    (λ e. c .delivery-refused .ensures ∙ delivery-turned-away _ _ (tested .before .delivery-outcome .ensures) (sym (tested .is-refused .ensures) ∙ e))
 
 array-share-prefix-bytes : tie.Need-array-share-prefix-bytes
 array-share-prefix-bytes c = within (c .before)
@@ -96,10 +103,9 @@ returns-2 c =
     let sizes = shape .before in
     let branch = sizes .before .before .before in
     let tested = branch .before in
-    delivery-filed _ _ (tested .before .delivery-outcome .ensures) (sym (tested .is-refused .ensures) ∙ branch .if1 .left)
-    (shape .shape-for .ensures) (numbers .numbers-of .ensures)
-    (sizes .sizes-of .ensures .0) (entries .entries .ensures .0)
-    (tested .before .before .before .is-held .ensures) (c .mark-by .ensures)
+    delivery-filed _ _ (tested .before .delivery-outcome .ensures) (not-turned-away branch)
+    (shape .shape-for .ensures) (sizes .sizes-of .ensures .0) (entries .entries .ensures .0) (tested .before .before .before .is-held .ensures)
+    refl refl (numbers .numbers-of .ensures) refl (c .mark-by .ensures)
 
 pub file-delivery-spec : {M : Type 1} → statement M
 file-delivery-spec =
