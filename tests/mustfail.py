@@ -33,6 +33,16 @@ TABLE = [
         ("if is_refused(found) & true {",)),
     Row("asks for the block before the place", "calls/block_missed_before_place",
         ("if !(inside) & true {", "refused((Reason::NotOfModel))", "if !block | false {", "refused(Reason::NoBlock)")),
+    Row("names a record's second reason before the first", "wellformed/two_reasons_swapped",
+        ("if !(ranged) & true {", "refused((Reason::OutOfRange), i)", "if !unused | false {", "refused(Reason::UnusedNotZero, i)")),
+    Row("takes every entry for live", "live/everything_live", ("a | b | 0",)),
+    Row("stops a round early", "live/marks_a_round_short", ("while left > 0 {",)),
+    Row("rounds each product, its chance included, down to 1,048,576ths before adding", "equations/products_rounded",
+        ("    weight * through >> 0 << 0",)),
+    Row("leaves out the middle state t", "equations/middle_state_left_out",
+        ("        sum = sum + value(block, n, r, y, t) * value(block, n, t, x, q);",)),
+    Row("leaves out the middle state t in the mean steps", "equations/middle_state_left_out_of_means",
+        ("(value(uppers, n, r, y, t)) * mean(means, n, t, x)",)),
 ]
 
 

@@ -10,7 +10,7 @@ use model::record::weight;
 use model::sizes::Sizes;
 use rows::STARTS;
 ghost use mathlib.Core.Path.{_≡_};
-ghost use Prim.Native.Nat.{_^_, _≤_, _<_};
+ghost use Prim.Native.Nat.{_*_, _^_, _≤_, _<_};
 ghost use Rattle.walks.specs.Sums.{sumTo};
 ghost use Rattle.walks.specs.Order.{rowsIn, entriesIn};
 ghost use Rattle.model.specs.Records.{recordsOf};
@@ -64,6 +64,14 @@ fn through(model: &[u8], i: usize, block: &[u8], n: Sizes, q: usize) -> u64
     through_two(block, n, r, y, under(model, i), q)
 }
 
+// What a rule adds to a sum over its row's rules: its weight times what it leads to, with no rounding.
+pub(crate) fn weighed(weight: u64, through: u64) -> u64
+    requires { ⌜ weight * through < 2 ^ 63 ⌝ }
+    ensures { λ r. ⌜ r ≡ weight * through ⌝ }
+{
+    weight * through
+}
+
 // f at the entry of a row, by its number, with exit q.
 pub fn f(model: &[u8], starts: &[u16; STARTS], block: &[u8], n: Sizes, row: usize, q: usize) -> u64
     requires files { ⌜ Indexed (now model) n (now starts) × Chances n (now block) ⌝ }
@@ -74,7 +82,7 @@ pub fn f(model: &[u8], starts: &[u16; STARTS], block: &[u8], n: Sizes, row: usiz
     let mut i = starts[row] as usize;
     let mut sum = 0;
     while i < end {
-        sum += weight(model, i) * through(model, i, block, n, q);
+        sum += weighed(weight(model, i), through(model, i, block, n, q));
         i += 1;
     }
     sum

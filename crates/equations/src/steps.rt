@@ -1,6 +1,7 @@
 // The right side of the mean steps' inequality (document 001, Theorem 8), over a row's records only.
 
 use super::chances::value;
+use super::chances::weighed;
 use delivery::format::CHANCE_UNIT;
 use delivery::format::STEP_UNIT;
 use delivery::record::value_at;
@@ -88,7 +89,7 @@ pub fn mean_side(
     let mut i = starts[row] as usize;
     let mut sum = STEP;
     while i < end {
-        sum += weight(model, i) * steps_through(model, i, uppers, means, n);
+        sum += weighed(weight(model, i), steps_through(model, i, uppers, means, n));
         i += 1;
     }
     sum

@@ -66,7 +66,7 @@ bit-power (suc r) zero = rw (pow-suc 2 r, eqb·suc-zero r) (omega arith)
 bit-power (suc r) (suc q) =
     rw (bit-next (2 ^ suc r) q, eqb·suc-suc r q, pow-suc 2 r, mul-div-cancel (2 ^ r) {n = 2} (lit≤ tt)) (bit-power r q)
 
-bit-or : (a b q : ℕ) → bitOf (bitOr a b) q ≡ max (bitOf a q) (bitOf b q)
+pub bit-or : (a b q : ℕ) → bitOf (bitOr a b) q ≡ max (bitOf a q) (bitOf b q)
 bit-or a b q = rw (or-shr a b q) (last (a / 2 ^ q) (b / 2 ^ q))
   where
     last : (m n : ℕ) → bitOr m n % 2 ≡ max (m % 2) (n % 2)
@@ -75,8 +75,9 @@ bit-or a b q = rw (or-shr a b q) (last (a / 2 ^ q) (b / 2 ^ q))
 bit-sign : (n q : ℕ) → bitOf n q ≡ sign (bitOf n q)
 bit-sign n q = sym (sign-bit (bitOf n q) (bit-most n q))
 
-bit-join : (a b q m n : ℕ) → bitOf a q ≡ sign m → bitOf b q ≡ sign n → bitOf (bitOr a b) q ≡ sign (m + n)
-bit-join a b q m n ha hb = bit-or a b q ∙ ap₂ max ha hb ∙ sign-add m n
+-- The bit of two rows' exits joined, by the signs of the two.
+bit-join : (j a b q m n : ℕ) → bitOf j q ≡ max (bitOf a q) (bitOf b q) → bitOf a q ≡ sign m → bitOf b q ≡ sign n → bitOf j q ≡ sign (m + n)
+bit-join j a b q m n both ha hb = both ∙ ap₂ max ha hb ∙ sign-add m n
 
 -- ---- the exits of two symbols, state by state
 
@@ -89,13 +90,14 @@ pub two-none : {g : ℕ} {l : List ℕ} {a x s : ℕ} → TwoTo g l a x s 0 0
 two-none = record { to = omega arith; exits = λ q. bit-none q ∙ sym (ap sign (sumTo-none _) ∙ sign-none) }
 
 module _ {g : ℕ} {l : List ℕ} {a x s t n : ℕ} (two : TwoTo g l a x s t n) where
-  pub two-with : {k m : ℕ} → t < s → bitOf a t ≡ 1 → k ≡ t * g + x → m ≡ bitOr n (getD l k 0) → TwoTo g l a x s (t + 1) m
-  two-with {k} {m} h on place e =
+  pub two-with : {k j m : ℕ} → t < s → bitOf a t ≡ 1 → k ≡ t * g + x
+      → ((q : ℕ) → bitOf j q ≡ max (bitOf n q) (bitOf (getD l k 0) q)) → m ≡ j → TwoTo g l a x s (t + 1) m
+  two-with {k} {j} {m} h on place both e =
       record {
         to = omega arith;
         exits = λ q.
             let term : bitOf (getD l k 0) q ≡ markProduct g l a x q t = rw (on, place) (sym (one-mul _)) in
-            rw (e, sumTo-step) (bit-join n (getD l k 0) q _ _ (two .exits q) (bit-sign (getD l k 0) q ∙ ap sign term));
+            rw (e, sumTo-step) (bit-join j n (getD l k 0) q _ _ (both q) (two .exits q) (bit-sign (getD l k 0) q ∙ ap sign term));
       }
 
   pub two-without : {k : ℕ} → t < s → bitOf a t ≡ 0 → k ≡ n → TwoTo g l a x s (t + 1) k
@@ -140,14 +142,14 @@ exits-none b s g marks k l sized starts below q =
     }
 
 module _ {b : List ℕ} {s g : ℕ} {marks : List ℕ} {k a e i n q : ℕ} (at : ExitTo b s g marks k a e i n q) where
-  pub exits-more : (m : ℕ) → i < e → bitOf m q ≡ sign (through s 1 (exitMarks g marks) (target b i) (pushAt b i) q)
-      → ExitTo b s g marks k a e (i + 1) (bitOr n m) q
-  exits-more m l same =
+  pub exits-more : {j : ℕ} (m : ℕ) → i < e → bitOf m q ≡ sign (through s 1 (exitMarks g marks) (target b i) (pushAt b i) q)
+      → bitOf j q ≡ max (bitOf n q) (bitOf m q) → ExitTo b s g marks k a e (i + 1) j q
+  exits-more {j} m l same both =
       let weighed = at .row .sized .file .records .right i (row-record (at .row) l) .weight-some in
       record {
         count = at .count + weight b i * through s 1 (exitMarks g marks) (target b i) (pushAt b i) q;
         row = row-more (at .row) l refl refl;
-        exit = bit-join n m q _ _ (at .exit) (same ∙ sym (sign-weighed (weight b i) _ weighed));
+        exit = bit-join j n m q _ _ both (at .exit) (same ∙ sym (sign-weighed (weight b i) _ weighed));
       }
 
   pub exits-end : e ≤ i → bitOf n q ≡ nextMark b s g marks (k / g) (k % g) q

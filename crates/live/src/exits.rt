@@ -8,7 +8,7 @@ use model::record::under;
 use model::sizes::Sizes;
 use rows::STARTS;
 ghost use mathlib.Core.Path.{_≡_};
-ghost use Prim.Native.Nat.{ℕ, _^_, _≤_, _<_};
+ghost use Prim.Native.Nat.{ℕ, _^_, _≤_, _<_, max};
 ghost use lib.ListN.{getD};
 ghost use Rattle.walks.specs.Sums.{sign, sumTo};
 ghost use Rattle.walks.specs.Order.{rowsIn};
@@ -37,6 +37,13 @@ fn bit(exits: u8, q: usize) -> u8
     (exits >> (q as u32)) % 2
 }
 
+// The exits among either of two.
+fn joined(a: u8, b: u8) -> u8
+    ensures { λ r. ⌜ ((q : ℕ) → bitOf r q ≡ max (bitOf a q) (bitOf b q)) ⌝ }
+{
+    a | b
+}
+
 // The mark of exit q of a row, by its number: 1 or 0.
 pub fn mark(live: &[u8; MOST_ROWS], row: usize, q: usize) -> u64
     requires { ⌜ (row < mostRows) × (q < mostStates) ⌝ }
@@ -62,7 +69,7 @@ fn exits_of_two(marks: &[u8; MOST_ROWS], n: Sizes, first: u8, x: usize) -> u8
     let mut t = 0;
     while t < s {
         if bit(first, t) == 1 {
-            exits = exits | marks[n.row(t, x)];
+            exits = joined(exits, marks[n.row(t, x)]);
         }
         t += 1;
     }
@@ -101,7 +108,7 @@ pub(crate) fn next_exits(
     let mut i = starts[row] as usize;
     let mut exits = 0u8;
     while i < end {
-        exits = exits | exits_through(model, i, marks, n);
+        exits = joined(exits, exits_through(model, i, marks, n));
         i += 1;
     }
     exits

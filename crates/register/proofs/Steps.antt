@@ -2,7 +2,7 @@
 use Prim.Native.Nat.{ℕ}
 use mathlib.Core.Bool.{Bool, true, false, false≢true}
 use mathlib.Core.List.{List}
-use mathlib.Core.Path.{_≡_, refl, _∙_}
+use mathlib.Core.Path.{_≡_, refl}
 use lib.ListN.{take}
 use Rattle.outcome.specs.declared.Outcome.{Outcome}
 use Rattle.outcome.specs.declared.Outcome.the-variants.{Accepted, Refused}
@@ -53,28 +53,13 @@ module _ (r : Register) (d : List ℕ) {o : Outcome} (found : o ≡ deliveryOutc
   unfolding fileDelivery
   delivery-turned-away e = rw (← found) (delivery-by o r _ d e)
 
-  -- A delivery that is not refused: what the answer holds, part by part.
-  pub delivery-filed : {x : Received} {h : Shape} {z : Sizes} {v : ℕ} {t : Bool} → isRefused o ≡ false
+  pub delivery-filed : {h : Shape} {n : Numbers} {z : Sizes} {v : ℕ} {t : Bool} {m : Mark} → isRefused o ≡ false
       → h ≡ shapeAs (shapeOf (z .states) (z .symbols) d)
+      → n ≡ numbersHeld (take (r .model .length) (r .model .bytes)) h d
       → z ≡ sizesOf (take (r .model .length) (r .model .bytes))
-      → v ≡ entriesIn (z .states) (z .symbols) → t ≡ isHeld (r .delivery)
-      → x .register .model ≡ r .model
-      → x .register .delivery ≡ Held.Of h
-      → x .register .numbers ≡ numbersHeld (take (r .model .length) (r .model .bytes)) h d
-      → x .outcome ≡ o
-      → x .mark ≡ markBy t v (r .numbers) (x .register .numbers)
-      → x ≡ fileDelivery r d
+      → v ≡ entriesIn (z .states) (z .symbols) → t ≡ isHeld (r .delivery) → m ≡ markBy t v (r .numbers) n
+      → _≡_ {A = Received}
+      (record { register = record { model = r .model; delivery = Held.Of h; numbers = n }; outcome = o; mark = m }) (fileDelivery r d)
   unfolding fileDelivery fileOf shapeFor
-  delivery-filed {x} {h} {z} {v} {t} e shape same entries another model delivery numbers outcome mark =
-      rw (
-        ← found,
-        not-refused o e,
-        ← (rw same at shape),
-        ← numbers,
-        ← (rw same at entries),
-        ← another,
-        ← mark,
-        ← model,
-        ← delivery,
-        ← (outcome ∙ not-refused o e),
-      )
+  delivery-filed e shape numbers same entries another mark =
+      rw (← found, not-refused o e, ← (rw same at shape), ← numbers, ← (rw same at entries), ← another, ← mark)

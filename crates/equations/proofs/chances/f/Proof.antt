@@ -60,21 +60,26 @@ through-requires c κs =
     let pre = c .before .before .before .before .before .before .before .pre in
     ((pre .0 .0 .sized, pre .0 .1), (row-record (c .before .before .loop .inv) (c .before .loop-test .taken), pre .1 .1))
 
-loop-again : tie.Need-loop-again Inv-loop μ-loop
-loop-again c =
-    row-more (c .before .before .before .loop .inv) (c .before .before .loop-test .taken) (c .before .weight .ensures .0) (c .through .ensures .0)
-
+-- The sum with one more record's product.
 summed : (c : tie.After-through Inv-loop μ-loop)
     → c .before .before .before .loop .sum + c .before .weight .result * c .through .result ≤ 2 ^ 61
 summed c =
     let pre = c .before .before .before .before .before .before .before .before .pre in
-    row-within (loop-again c) (2 ^ 45) (through-most _ _ (sized-fits (pre .0 .0 .sized) .few-states) (pre .0 .1) _)
+    row-within
+    (row-more (c .before .before .before .loop .inv) (c .before .before .loop-test .taken) (c .before .weight .ensures .0) (c .through .ensures .0))
+    (2 ^ 45) (through-most _ _ (sized-fits (pre .0 .0 .sized) .few-states) (pre .0 .1) _)
 
-mul-sum : tie.Need-mul-sum Inv-loop μ-loop
-mul-sum c = omega (arith, summed c)
+weighed-requires : tie.Need-weighed-requires Inv-loop μ-loop
+weighed-requires c κs = omega (arith, summed c)
+
+loop-again : tie.Need-loop-again Inv-loop μ-loop
+loop-again c =
+    let through = c .before in
+    rw (c .weighed .ensures)
+    (row-more (through .before .before .before .loop .inv) (through .before .before .loop-test .taken) (through .before .weight .ensures .0) (through .through .ensures .0))
 
 add-sum : tie.Need-add-sum Inv-loop μ-loop
-add-sum c = omega (arith, summed c)
+add-sum c = omega (arith, summed (c .before), c .weighed .ensures)
 
 add-i : tie.Need-add-i Inv-loop μ-loop
 add-i c = omega arith
@@ -106,7 +111,7 @@ f-spec =
     loop-holds
     weight-requires
     through-requires
-    mul-sum
+    weighed-requires
     add-sum
     add-i
     loop-less

@@ -59,21 +59,26 @@ steps-through-requires c κs =
     let pre = c .before .before .before .before .before .before .before .before .pre in
     ((pre .0 .0 .sized, pre .0 .1, pre .0 .2), row-record (c .before .before .loop .inv) (c .before .loop-test .taken))
 
-loop-again : tie.Need-loop-again Inv-loop μ-loop
-loop-again c =
-    row-more (c .before .before .before .loop .inv) (c .before .before .loop-test .taken) (c .before .weight .ensures .0) (c .steps-through .ensures .0)
-
+-- The sum with one more record's product.
 summed : (c : tie.After-steps-through Inv-loop μ-loop)
     → c .before .before .before .loop .sum + c .before .weight .result * c .steps-through .result ≤ 2 ^ 44 + (2 ^ 46 + 2 ^ 42) * 65536
 summed c =
     let pre = c .before .before .before .before .before .before .before .before .before .pre in
-    row-within (loop-again c) (2 ^ 46 + 2 ^ 42) (steps-most _ _ (sized-fits (pre .0 .0 .sized) .few-states) (pre .0 .1) (pre .0 .2))
+    row-within
+    (row-more (c .before .before .before .loop .inv) (c .before .before .loop-test .taken) (c .before .weight .ensures .0) (c .steps-through .ensures .0))
+    (2 ^ 46 + 2 ^ 42) (steps-most _ _ (sized-fits (pre .0 .0 .sized) .few-states) (pre .0 .1) (pre .0 .2))
 
-mul-sum : tie.Need-mul-sum Inv-loop μ-loop
-mul-sum c = omega (arith, summed c)
+weighed-requires : tie.Need-weighed-requires Inv-loop μ-loop
+weighed-requires c κs = omega (arith, summed c)
+
+loop-again : tie.Need-loop-again Inv-loop μ-loop
+loop-again c =
+    let through = c .before in
+    rw (c .weighed .ensures)
+    (row-more (through .before .before .before .loop .inv) (through .before .before .loop-test .taken) (through .before .weight .ensures .0) (through .steps-through .ensures .0))
 
 add-sum : tie.Need-add-sum Inv-loop μ-loop
-add-sum c = omega (arith, summed c)
+add-sum c = omega (arith, summed (c .before), c .weighed .ensures)
 
 add-i : tie.Need-add-i Inv-loop μ-loop
 add-i c = omega arith
@@ -105,7 +110,7 @@ mean-side-spec =
     loop-holds
     weight-requires
     steps-through-requires
-    mul-sum
+    weighed-requires
     add-sum
     add-i
     loop-less

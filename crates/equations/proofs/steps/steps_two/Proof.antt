@@ -21,12 +21,12 @@ loop-holds c = states-none
 value-requires : tie.Need-value-requires Inv-loop μ-loop
 value-requires c κs =
     let pre = c .before .before .before .before .pre in
-    ((pre .0 .0, pre .0 .1 .whole), (pre .1 .0, pre .1 .1, c .loop-test .taken))
+    ((pre .0 .0, pre .0 .1 .whole), (omega (arith, pre .1), omega (arith, pre .1), omega (arith, pre .1)))
 
 mean-requires : tie.Need-mean-requires Inv-loop μ-loop
 mean-requires c κs =
     let pre = c .before .before .before .before .before .pre in
-    ((pre .0 .0, pre .0 .2 .whole), (c .before .loop-test .taken, pre .1 .2))
+    ((pre .0 .0, pre .0 .2 .whole), (omega (arith, pre .1), omega (arith, pre .1)))
 
 loop-again : tie.Need-loop-again Inv-loop μ-loop
 loop-again c =

@@ -3,6 +3,7 @@ use Prim.Native.Nat.{_-_}
 use native.Mathlib.Omega.{arith}
 use mathlib.Core.Logic.{⊎-elim}
 use mathlib.Core.Path.{sym, _∙_}
+use borrow.Author.Needs.{needs}
 use Rattle.model.proofs.Records.{fits-narrow}
 use Rattle.live.proofs.Bits.{TwoTo, two-none, two-with, two-without, two-end}
 use Rattle.live.proofs.exits.exits_of_two.Statement.{statement}
@@ -25,8 +26,11 @@ row-requires c κs =
     let pre = c .before .before .before .before .pre in
     (fits-narrow (pre .0), c .before .before .loop-test .taken, pre .1)
 
-element-copy-out-exits : tie.Need-element-copy-out-exits Inv-loop μ-loop
-element-copy-out-exits c = omega (arith, c .row .ensures .1)
+element-copy-out-joined : tie.Need-element-copy-out-joined Inv-loop μ-loop
+element-copy-out-joined c = omega (arith, c .row .ensures .1)
+
+joined-requires : tie.Need-joined-requires Inv-loop μ-loop
+joined-requires c κs = search needs
 
 add-t : tie.Need-add-t Inv-loop μ-loop
 add-t c = omega arith
@@ -40,7 +44,7 @@ loop-again c =
     let taken = c .before .before .loop-test .taken in
     let bit = c .before .bit .ensures in
     ⊎-elim
-    (λ w. two-with inv taken (sym (bit .0) ∙ w .0 .taken) (w .1 .ensures .0) (w .3))
+    (λ w. two-with inv taken (sym (bit .0) ∙ w .0 .taken) (w .1 .ensures .0) (w .3 .ensures) (w .4))
     (λ w. two-without inv taken (sym (bit .0) ∙ omega arith) (w .1))
     (c .if1 .came)
 
@@ -56,7 +60,8 @@ exits-of-two-spec =
     loop-holds
     bit-requires
     row-requires
-    element-copy-out-exits
+    element-copy-out-joined
+    joined-requires
     add-t
     loop-less
     loop-again

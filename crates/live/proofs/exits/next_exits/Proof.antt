@@ -2,6 +2,7 @@
 use Prim.Native.Nat.{ℕ, _+_, _≤_, _<_, _-_}
 use native.Mathlib.Omega.{arith}
 use lib.ListN.{getD}
+use borrow.Author.Needs.{needs}
 use Rattle.model.specs.Records.{recordsOf}
 use Rattle.model.specs.Format.{mostRecords}
 use Rattle.model.proofs.Accepted.{sized-fits}
@@ -54,6 +55,9 @@ loop-holds c =
 exits-through-requires : tie.Need-exits-through-requires Inv-loop μ-loop
 exits-through-requires c κs = (c .before .before .before .before .before .pre .0 .sized, omega (arith, c .before .loop .inv .0))
 
+joined-requires : tie.Need-joined-requires Inv-loop μ-loop
+joined-requires c κs = search needs
+
 add-i : tie.Need-add-i Inv-loop μ-loop
 add-i c = omega arith
 
@@ -62,8 +66,8 @@ loop-less c = omega arith
 
 loop-again : tie.Need-loop-again Inv-loop μ-loop
 loop-again c =
-    let inv = c .before .before .loop .inv in
-    (inv .0, inv .1, λ q h. exits-more (inv .2 q h) _ (c .before .loop-test .taken) (c .exits-through .ensures q))
+    let inv = c .before .before .before .loop .inv in
+    (inv .0, inv .1, λ q h. exits-more (inv .2 q h) (c .before .exits-through .result) (c .before .before .loop-test .taken) (c .before .exits-through .ensures q) (c .joined .ensures q))
 
 returns : tie.Need-returns Inv-loop μ-loop
 returns c = λ q h. exits-end (c .before .loop .inv .2 q h) (c .loop-test .left)
@@ -83,6 +87,7 @@ next-exits-spec =
     cast-i
     loop-holds
     exits-through-requires
+    joined-requires
     add-i
     loop-less
     loop-again

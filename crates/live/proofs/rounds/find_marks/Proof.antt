@@ -79,6 +79,7 @@ returns-2 : tie.Need-returns-2 Inv-loop μ-loop
 returns-2 c =
     let at = c .before .loop in
     let sizes = c .before .before in
+    let none : at .left ≡ 0 = omega arith in
     let (done, is, held) = at .inv .2 in
     marks-all (sizes .before .before .before .pre .0 .sized) (at .marks) done held (omega arith)
 

@@ -103,9 +103,10 @@ returns-2 c =
     let sizes = shape .before in
     let branch = sizes .before .before .before in
     let tested = branch .before in
-    delivery-filed _ _ (tested .before .delivery-outcome .ensures) (not-turned-away branch)
-    (shape .shape-for .ensures) (sizes .sizes-of .ensures .0) (entries .entries .ensures .0) (tested .before .before .before .is-held .ensures)
-    refl refl (numbers .numbers-of .ensures) refl (c .mark-by .ensures)
+    rw (← delivery-filed _ _ (tested .before .delivery-outcome .ensures) (not-turned-away branch)
+    (shape .shape-for .ensures) (numbers .numbers-of .ensures)
+    (sizes .sizes-of .ensures .0) (entries .entries .ensures .0)
+    (tested .before .before .before .is-held .ensures) (c .mark-by .ensures)) refl
 
 pub file-delivery-spec : {M : Type 1} → statement M
 file-delivery-spec =
