@@ -25,24 +25,61 @@ class Row(NamedTuple):
     twin: tuple   # a new line for each that the edit has, in their order
 
 
-# Registers that have to break the contracts (document 01, "Conditions of acceptance", 3), then the mistakes of method.
+# Registers that have to break the contracts (document 01, "Conditions of acceptance", 3); the mistakes of method; and the order of reasons.
 TABLE = [
-    Row("files nothing while reporting success: a delivery's numbers are those before", "register/keeps_the_former_numbers",
+    Row("takes no model", "filing/takes_no_model", ("let found = wellformed::check(file); found",)),
+    Row("takes no model", "wellformed/takes_no_model", ("    (0 < n) & ((n % RECORD_BYTES == 0) & (n <= 10240))",)),
+    Row("takes no delivery", "filing/takes_no_delivery", ("let found = certificate::check(&bytes[..length], file); found",)),
+    Row("takes no delivery", "delivery/takes_no_delivery", ("    delivery.len() == 8 * records_in(n, shape)",)),
+    Row("takes no delivery, by definition", "verdict/takes_no_delivery",
+        ("shapedTests b s g (Of h) d = [] ++ (layoutTests s g h d ++ numberTests b s g h d)",)),
+    Row("takes every delivery", "filing/takes_every_delivery", ("let found = certificate::check(&bytes[..length], file); found",)),
+    Row("takes every delivery of a right layout", "inequalities/takes_every_number",
+        ("(y > upper) | (strict & (live & (y >= upper)))", "    if need > y {", "    if y > have {",
+         "        if (!is_live(mark(live, row, q))) & (value_at(block, e) != 0) {", "        if (value_at(uppers, e)) < value_at(lowers, e) {")),
+    Row("takes every delivery, by definition", "verdict/takes_every_delivery",
+        ("shapedTests b s g (Of h) d = [] ++ (layoutTests s g h d ++ numberTests b s g h d)",)),
+    Row("files nothing while reporting success", "held/files_nothing", ("length: file.len(),",)),
+    Row("files nothing while reporting success: the numbers are the former delivery's", "register/keeps_the_former_numbers",
         ("numbers: numbers,",)),
     Row("checks the first delivery after a model and waves later ones through", "register/waves_later_deliveries_through",
         ("if is_refused(found) & true {",)),
-    Row("asks for the block before the place", "calls/block_missed_before_place",
-        ("if !(inside) & true {", "refused((Reason::NotOfModel))", "if !block | false {", "refused(Reason::NoBlock)")),
-    Row("names a record's second reason before the first", "wellformed/two_reasons_swapped",
-        ("if !(ranged) & true {", "refused((Reason::OutOfRange), i)", "if !unused | false {", "refused(Reason::UnusedNotZero, i)")),
-    Row("takes every entry for live", "live/everything_live", ("a | b | 0",)),
-    Row("stops a round early", "live/marks_a_round_short", ("while left > 0 {",)),
+    Row("prints an invented margin", "held/invented_margin",
+        ("let found = margin_with_lowers(model, delivery, n, shape); found",)),
+    Row("prints an invented margin", "shares/invented_margin", ("    let mut least = 1048576;",)),
+    Row("answers 42 with a delivery held", "held/answers_42_with_a_delivery_held", ("HeldDelivery::Of(_) => !false,",)),
+
+    Row("takes a lower without the strict upper", "certificate/strict_test_left_out",
+        ("let side = Side::StrictUpper; side",)),
+    Row("takes a lower without the strict upper", "inequalities/equal_upper_taken_beside_lowers",
+        ("(y > upper) | (strict & (live & (y >= upper)))",)),
+    Row("takes a lower without the strict upper, by definition", "ppda/strict_upper_left_out",
+        ("  pub strict : isLive (alive m s g p z q) ≡ true → f m s (2 ^ 20) u p z q < u p z q * sumUnit",)),
     Row("rounds each product, its chance included, down to 1,048,576ths before adding", "equations/products_rounded",
         ("    weight * through >> 0 << 0",)),
     Row("leaves out the middle state t", "equations/middle_state_left_out",
         ("        sum = sum + value(block, n, r, y, t) * value(block, n, t, x, q);",)),
     Row("leaves out the middle state t in the mean steps", "equations/middle_state_left_out_of_means",
         ("(value(uppers, n, r, y, t)) * mean(means, n, t, x)",)),
+    Row("leaves out the middle state t, by definition", "ppda/middle_state_left_out",
+        ("through s d v r (two y x) q = sumTo (λ m. v r y m * v m x q) s",)),
+    Row("weighs r(t, X) by the lowers", "certificate/mean_steps_by_the_lowers",
+        ("let weighs = uppers; return means::check(model, starts, weighs, block, n, v + v);",)),
+    Row("weighs r(t, X) by the lowers, by definition", "ppda/mean_steps_by_the_lowers",
+        ("  pub means : Means m s g (λ p z q. u p z q) r",)),
+    Row("takes k rounds of f from zero for k steps", "ppda/k_steps_for_k_rounds", ("stepsOf k = (1 + 1) ^ k - 1",)),
+    Row("promises the lower of k rounds for more steps", "ppda/lower_promised_later", ("stepsOf k = (1 + 1) ^ k - 1",)),
+    Row("caps uppers at 1", "delivery/uppers_capped_at_one", ("Block::Uppers => 2097152,",)),
+    Row("caps uppers at 1, by definition", "ppda/uppers_capped_at_one", ("mostChance = 2 ^ 21",)),
+
+    Row("finds the live marks a round short", "live/marks_a_round_short", ("while left > 0 {",)),
+    Row("finds the live marks rounds short, by definition", "ppda/too_few_rounds",
+        ("alive m s g = λ p z q. mark m s (entriesIn s g) p z q",)),
+    Row("marks every entry as live", "live/everything_live", ("a | b | 0",)),
+    Row("names the block before the place", "calls/block_missed_before_place",
+        ("if !(inside) & true {", "refused((Reason::NotOfModel))", "if !block | false {", "refused(Reason::NoBlock)")),
+    Row("names a record's second reason before the first", "wellformed/two_reasons_swapped",
+        ("if !(ranged) & true {", "refused((Reason::OutOfRange), i)", "if !unused | false {", "refused(Reason::UnusedNotZero, i)")),
 ]
 
 
@@ -91,15 +128,40 @@ def tried(work, label):
     return ("refused" if "refused, as it must be" in said else "accepted"), log
 
 
+def closing(text, at):
+    """The place after the parenthesis that closes the one at `at`."""
+    depth = 0
+    for i in range(at, len(text)):
+        depth += (text[i] == "(") - (text[i] == ")")
+        if depth == 0:
+            return i + 1
+    return len(text)
+
+
+def locals_named(text):
+    """A local of the code's, which is printed as a look into a table, by its number."""
+    look = re.compile(r"borrow\.Table\.Row\.get (\d+) (?=\()")
+    found = look.search(text)
+    while found:
+        end = closing(text, closing(text, found.end()) + 1)
+        text = text[:found.start()] + "_" + found[1] + text[end:]
+        found = look.search(text)
+    return text
+
+
 def first_error(log):
-    """The first error, from its place to what differs, without the prefixes of modules."""
-    start = re.search(r"^\S+: error: ", log, re.M)
+    """The first error: its place, and what differs, without the prefixes of modules."""
+    start = re.search(r"^\S+: error: `[^`]*`: ", log, re.M)
     if not start:
         return log[:400]
-    text = log[start.start():]
-    text = re.split(r"\n\S|\n  expected type", text, maxsplit=1)[0]
-    text = re.sub(r"\(?\b(?:Rattle·\w+(?:·\w+)?|mathlib|lib|borrow|denote|Prim)(?:\.[\w·-]+)*\.(?=[\w_])", "", text)
-    return re.sub(r"\s+", " ", text)
+    text = re.split(r"\n\S", log[start.end():], maxsplit=1)[0]
+    computed = text.find("computed as far as they go")
+    text = text[max(computed, 0):]
+    if computed >= 0 or re.match("as printed", text):
+        text = re.split(r"\n  expected type|\n  `[^`]*`[^\n]* do(?:es)? not unfold", text, maxsplit=1)[0]
+    text = re.split(r" It read \d+ hypotheses", text, maxsplit=1)[0]
+    text = re.sub(r"\s+", " ", start[0] + locals_named(text))
+    return re.sub(r"\b(?:Rattle·\w+(?:·\w+)?|mathlib|native|lib|mir|borrow|denote|Prim)(?:\.[\w·-]+)*\.(?=[\w_«])", "", text)
 
 
 def shown(row, edit, twin):

@@ -16,10 +16,12 @@ use outcome::Outcome;
 use rows::STARTS;
 use rows::find_starts;
 ghost use mathlib.Core.Path.{_≡_};
+ghost use mathlib.Core.Bool.{cond};
 ghost use Rattle.outcome.specs.Tests.{first};
 ghost use Rattle.model.specs.Sizes.{Fits};
 ghost use Rattle.delivery.specs.Contracts.{Chances};
 ghost use Rattle.rows.specs.Contracts.{Indexed};
+ghost use Rattle.inequalities.specs.declared.sides.Side.the-variants.{Upper, StrictUpper};
 ghost use Rattle.verdict.specs.Verdict.{numberTests};
 ghost use Rattle.certificate.specs.Contracts.{LaidOut, LowersRead, RestOf, deadPart, upperPart, lowerPart, meanPart, restPart};
 
@@ -36,6 +38,17 @@ fn dead_lowers(rest: &[u8], live: &[u8; MOST_ROWS], n: Sizes, lowers: bool) -> O
     check_dead(live, block, n, v)
 }
 
+// The side on which uppers stand: beside lowers the strict one.
+fn side_of_uppers(lowers: bool) -> Side
+    ensures { λ r. ⌜ r ≡ cond lowers StrictUpper Upper ⌝ }
+{
+    if lowers {
+        Side::StrictUpper
+    } else {
+        Side::Upper
+    }
+}
+
 // 24, by whether lowers stand.
 fn check_uppers(
     model: &[u8],
@@ -48,11 +61,7 @@ fn check_uppers(
     requires { ⌜ Indexed (now model) n (now starts) × Chances n (now uppers) ⌝ }
     ensures { λ r. ⌜ r ≡ first (upperPart (now (model .entry)) (n .states) (n .symbols) lowers (now (live .entry)) (now (uppers .entry))) ⌝ }
 {
-    if lowers {
-        sides::check(Side::StrictUpper, model, starts, live, uppers, n)
-    } else {
-        sides::check(Side::Upper, model, starts, live, uppers, n)
-    }
+    sides::check(side_of_uppers(lowers), model, starts, live, uppers, n)
 }
 
 // 25 and then 26, in the lowers, which the rest of the file starts with where they stand.

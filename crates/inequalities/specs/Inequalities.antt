@@ -16,12 +16,16 @@ use Rattle.walks.specs.Order.{entriesIn, entryAt, rowAt, eachEntry, eachRow}
 unfoldable pub deadTest : Bool → ℕ → ℕ → Test
 deadTest live v i = plain (not live && not (eqb v 0)) DeadNotZero i
 
+-- An upper a misses its inequality against y, both in 1/2^56: a ≥ y, and a > y where lowers stand and the entry is live.
+abbrev pub upperMisses : Bool → Bool → ℕ → ℕ → Bool
+upperMisses lowers live a y = ltb a y || (lowers && (live && leb a y))
+
 -- At place i, an entry that is live or not has the upper u, and f(u) is y, in 1/2^56: u ≥ f(u), and u > f(u) where lowers stand and the
 -- entry is live.
 unfoldable pub upperTest : Bool → Bool → ℕ → ℕ → ℕ → Test
 upperTest lowers live u y i =
     record {
-      fails = ltb (u * sumUnit) y || (lowers && (live && leb (u * sumUnit) y));
+      fails = upperMisses lowers live (u * sumUnit) y;
       reason = UpperTooSmall;
       place = i;
       shortfall = subℕ (u * sumUnit) y;

@@ -21,7 +21,7 @@ ghost use Rattle.model.specs.Format.{mostEntries};
 ghost use Rattle.model.specs.Sizes.{Fits};
 ghost use Rattle.delivery.specs.Contracts.{Chances};
 ghost use Rattle.rows.specs.Contracts.{Indexed};
-ghost use Rattle.inequalities.specs.Inequalities.{upperTest, lowerTest};
+ghost use Rattle.inequalities.specs.Inequalities.{upperMisses, upperTest, lowerTest};
 ghost use Rattle.inequalities.specs.Contracts.{sideTest, sideFrom, sideRow, sideBlock};
 
 // Which side of the equations a number stands on: at least f; above f at a live entry; at most f.
@@ -31,13 +31,20 @@ pub enum Side {
     Lower,
 }
 
+// Whether an upper misses its inequality against y: it is below, or, where it has to be strict and the entry is live, not above.
+fn misses(strict: bool, live: bool, upper: u64, y: u64) -> bool
+    ensures { λ r. ⌜ r ≡ upperMisses strict live upper y ⌝ }
+{
+    (upper < y) | (strict & (live & (upper <= y)))
+}
+
 // u against f(u) = y: a missed inequality has the shortfall u − y.
 fn check_upper(strict: bool, live: bool, u: u64, y: u64, place: usize) -> Outcome
     requires { ⌜ (u ≤ mostChance) × (y ≤ 2 ^ 61) ⌝ }
     ensures { λ r. ⌜ r ≡ first (upperTest strict live u y place ∷ []) ⌝ }
 {
     let have = u * SUM_UNIT;
-    if (have < y) | (strict & (live & (have <= y))) {
+    if misses(strict, live, have, y) {
         return Outcome::Refused {
             reason: Reason::UpperTooSmall,
             place,
