@@ -176,15 +176,33 @@ def shown(row, edit, twin):
     return word == "refused" and twin[0] == "accepted"
 
 
+def try_all(work, rows):
+    """Shows each row once its edit and its twin have been tried; whether all are as they must be."""
+    make_copy(work, rows)
+    crates = sorted({row.label.split("/")[0] for row in rows})
+    left = {row.label: row for row in rows}
+    ended, right = set(), True
+    with subprocess.Popen(["rt", "must-fail", *crates], cwd=work, stdout=subprocess.PIPE, stderr=subprocess.STDOUT, text=True) as run:
+        for line in run.stdout:
+            said = re.match(r"rt: must-fail (\S+): ", line)
+            if said:
+                ended.add(said[1])
+            elif "NOT PROVED" in line:
+                print(line, end="", flush=True)
+            for label in [label for label in left if {label, label + "-twin"} <= ended]:
+                right = shown(left.pop(label), tried(work, label), tried(work, label + "-twin")) and right
+    for label in left:
+        print(f"{label}: NOT TRIED")
+    return right and not left
+
+
 def main():
-    rows = [row for row in TABLE if len(sys.argv) < 2 or any(word in row.label or word in row.stands_for for word in sys.argv[1:])]
+    words = sys.argv[1:]
+    rows = [row for row in TABLE if not words or any(word in row.label or word in row.stands_for for word in words)]
     with tempfile.TemporaryDirectory() as work:
-        make_copy(work, rows)
-        crates = sorted({row.label.split("/")[0] for row in rows})
-        subprocess.run(["rt", "must-fail", *crates], cwd=work, stdout=subprocess.DEVNULL, stderr=subprocess.DEVNULL)
-        right = [shown(row, tried(work, row.label), tried(work, row.label + "-twin")) for row in rows]
-    print(f"{len(rows)} edits refused and their twins accepted" if all(right) else f"{right.count(False)} of {len(rows)} rows are not as they must be")
-    sys.exit(0 if all(right) else 1)
+        right = try_all(work, rows)
+    print(f"{len(rows)} rows: " + ("each edit is refused, and each twin accepted" if right else "NOT all as they must be"))
+    sys.exit(0 if right else 1)
 
 
 if __name__ == "__main__":

@@ -103,7 +103,8 @@ returns-2 c =
     let sizes = shape .before in
     let branch = sizes .before .before .before in
     let tested = branch .before in
-    rw (← delivery-filed _ _ (tested .before .delivery-outcome .ensures) (not-turned-away branch)
+    let args = tested .before .before .before .before .before .before .args in
+    rw (← delivery-filed (args .self) (now (args .file)) (tested .before .delivery-outcome .ensures) (not-turned-away branch)
     (shape .shape-for .ensures) (numbers .numbers-of .ensures)
     (sizes .sizes-of .ensures .0) (entries .entries .ensures .0)
     (tested .before .before .before .is-held .ensures) (c .mark-by .ensures)) refl
