@@ -161,6 +161,7 @@ def first_error(log):
         text = re.split(r"\n  expected type|\n  `[^`]*`[^\n]* do(?:es)? not unfold", text, maxsplit=1)[0]
     text = re.split(r" It read \d+ hypotheses", text, maxsplit=1)[0]
     text = re.sub(r"\s+", " ", start[0] + locals_named(text))
+    text = re.sub(r"\bc(?: \.before)+", "c ..", text)
     return re.sub(r"\b(?:Rattle·\w+(?:·\w+)?|mathlib|native|lib|mir|borrow|denote|Prim)(?:\.[\w·-]+)*\.(?=[\w_«])", "", text)
 
 

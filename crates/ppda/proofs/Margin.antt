@@ -79,5 +79,5 @@ f-le-kept m s g u l uppers lowers p z q hp hz hq = go (isLive (alive m s g p z q
         → f m s (2 ^ 20) u p z q * whole (margin m s g u) ≤ kept (margin m s g u) * (u p z q * 2 ^ 36)
     go true live =
         live-keeps (margin m s g u) (u p z q) (f m s (2 ^ 20) u p z q) (margin-le-top m s g u)
-        (rw live at (margin-le-share m s g u p z q hp hz hq)) (this .strict live) (this .range)
+        (rw live at (margin-le-share m s g u p z q hp hz hq)) (this .strict live) (omega (arith, this .range))
     go false dead = dead-keeps (margin m s g u) (u p z q) (f m s (2 ^ 20) u p z q) (this .dead dead) (uppers p z q hp hz hq)

@@ -6,6 +6,7 @@ use mathlib.Core.Bool.{true}
 use mathlib.Core.List.{[], _∷_, flatMap}
 use lib.Dec.{lit<, lit≤}
 use Rattle.walks.specs.Sums.{sum, sumTo, sign}
+use Rattle.ppda.specs.Units.{mostChance}
 use Rattle.ppda.specs.Rules.{rule, fits, overRow, IsModel}
 use Rattle.ppda.specs.Runs.{after, lists, weigh, overRuns, overRunsWithin}
 use Rattle.ppda.specs.Chances.{mean, counted}
@@ -29,7 +30,7 @@ unfolding isLive alive mark sign f overRow sum fits sumTo
 dead h = not-suc-le-zero (is-live (alive w 2 1 1 0 0) .0 (live-by-rounds w 2 1 is-model 1 0 0 (lit< tt) (lit< tt) (lit< tt) .1 h))
 
 live-at : (p z q : ℕ) → isLive (alive w 2 1 p z q) ≡ true → wLowers p z q * 2 ^ 36 ≤ f w 2 (2 ^ 20) wLowers p z q → wLowers p z q ≤ wUppers p z q
-    → wUppers p z q ≤ 2097152 → f w 2 (2 ^ 20) wUppers p z q < wUppers p z q * 2 ^ 36 → LowerAt w 2 1 wUppers wLowers p z q
+    → wUppers p z q ≤ mostChance → f w 2 (2 ^ 20) wUppers p z q < wUppers p z q * 2 ^ 36 → LowerAt w 2 1 wUppers wLowers p z q
 live-at p z q live a b c d =
     record { lower = a; below = b; range = c; strict = λ e. d; dead = λ e. absurd (not-suc-le-zero (rw (is-dead _ e) at (is-live _ .0 live))) }
 

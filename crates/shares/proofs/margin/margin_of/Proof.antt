@@ -1,9 +1,8 @@
 -- `margin_of`: the least value carried is that of the rows passed, and all rows are all entries.
 use Prim.Native.Nat.{_-_, _≤_}
 use native.Mathlib.Omega.{arith}
-use mathlib.Core.Path.{_≡_, refl, _∙_}
+use mathlib.Core.Path.{_≡_, refl}
 use borrow.Author.Needs.{needs}
-use Rattle.ppda.specs.Units.{chanceUnit}
 use Rattle.walks.specs.Order.{rowsIn}
 use Rattle.model.specs.Format.{mostRows}
 use Rattle.model.proofs.Accepted.{sized-fits}
@@ -23,7 +22,7 @@ rows-requires : tie.Need-rows-requires Inv-loop μ-loop
 rows-requires c κs = sized-fits (c .before .before .pre .indexed .sized)
 
 loop-holds : tie.Need-loop-holds Inv-loop μ-loop
-loop-holds c = (search needs, c .rows .ensures .0, c .rows .ensures .1, _∙_ {b = chanceUnit} refl (rows-none _ _ _ _ _))
+loop-holds c = (search needs, c .rows .ensures .0, c .rows .ensures .1, rw (← rows-none) refl)
 
 least-of-row-requires : tie.Need-least-of-row-requires Inv-loop μ-loop
 least-of-row-requires c κs = (c .before .before .before .before .before .pre, omega arith)
