@@ -1,5 +1,6 @@
 -- The theorems: mission point 3 over lists of rules and vectors.
 pub mod W
+pub mod Edges
 pub mod Rows
 pub mod Steps
 pub mod Stacks

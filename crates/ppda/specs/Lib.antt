@@ -1,5 +1,6 @@
 -- What a reader must believe, in the order of document 01: units, rules, runs, the chances and means summed over runs,
--- the equations, live entries, the margin, and what a certificate claims and is promised. Nothing here knows bytes.
+-- the equations, live entries, the margin, and what a certificate claims and is promised; model W, and rules of which sides are worked out. Nothing here
+-- knows bytes.
 pub mod Units
 pub mod Rules
 pub mod Runs
@@ -9,3 +10,4 @@ pub mod Live
 pub mod Margin
 pub mod Bounds
 pub mod W
+pub mod Edges
