@@ -31,7 +31,7 @@ use Rattle.walks.specs.Order.{eachEntry, eachRow}
 use Rattle.inequalities.specs.Inequalities.{deadTest, upperTest, belowTest, lowerTest, meanTest, deadTests, upperTests, belowTests, lowerTests, meanTests}
 use Rattle.verdict.specs.Verdict.{numberTests, shapedTests, deliveryTests}
 use Rattle.certificate.specs.Margin.{marginOf, shownMargin}
-use Rattle.certificate.specs.Edges.{oneRule, zToZ, AllHold, wDelivery, edges, margins, answerTo, dueTo, badInputs, failTwice, placesAndEnds, greatest, lastUpper, fourthBytes, longest, fileOrder}
+use Rattle.certificate.specs.Edges.{oneRule, zToZ, AllHold, wDelivery, edges, margins, answerTo, dueTo, badInputs, failTwice, placesAndEnds, greatest, lastUpper, fourthBytes, longest, fileOrder, pushes, leastShortfalls}
 use Rattle.model.proofs.Accepted.{is-model}
 use Rattle.wellformed.proofs.Accepted.{model-accepted}
 use Rattle.verdict.proofs.Accepted.{dead-exactly}
@@ -126,6 +126,15 @@ longest-answered = refl
 pub file-order-answered : map answerTo fileOrder ≡ map dueTo fileOrder
 unfolding first each wordAt sign sum sumTo leastTo fits overRow f meanSide mark isLive alive share shareAt margin recordsOf field weight greatestTo statesOf symbolsOf ruleOf listTo rulesOf rowOf rowSum wholeRecords rangeAt unusedAt weightAt ascends recordTests rowTests rowsTests modelTests modelVerdict byteOf valueAt meansFrom recordsIn longAs lowersOrMeans shapeOf uppersOf lowersOf meansOf eachEntry eachRow isDue inRange layout.recordTests deadTest upperTest belowTest lowerTest meanTest upperRecords lowerRecords meanRecords deadTests upperTests belowTests lowerTests meanTests layoutTests numberTests shapedTests deliveryTests verdict.verdict marginOf shownMargin
 file-order-answered = refl
+
+-- So do numbers that just pass, and those next to them.
+pub pushes-answered : map answerTo pushes ≡ map dueTo pushes
+unfolding first each wordAt sign sum sumTo leastTo fits overRow f meanSide mark isLive alive share shareAt margin recordsOf field weight greatestTo statesOf symbolsOf ruleOf listTo rulesOf rowOf rowSum wholeRecords rangeAt unusedAt weightAt ascends recordTests rowTests rowsTests modelTests modelVerdict byteOf valueAt meansFrom recordsIn longAs lowersOrMeans shapeOf uppersOf lowersOf meansOf eachEntry eachRow isDue inRange layout.recordTests deadTest upperTest belowTest lowerTest meanTest upperRecords lowerRecords meanRecords deadTests upperTests belowTests lowerTests meanTests layoutTests numberTests shapedTests deliveryTests verdict.verdict marginOf shownMargin
+pushes-answered = refl
+
+pub least-shortfalls-answered : map answerTo leastShortfalls ≡ map dueTo leastShortfalls
+unfolding first each wordAt sign sum sumTo leastTo fits overRow f meanSide mark isLive alive share shareAt margin recordsOf field weight greatestTo statesOf symbolsOf ruleOf listTo rulesOf rowOf rowSum wholeRecords rangeAt unusedAt weightAt ascends recordTests rowTests rowsTests modelTests modelVerdict byteOf valueAt meansFrom recordsIn longAs lowersOrMeans shapeOf uppersOf lowersOf meansOf eachEntry eachRow isDue inRange layout.recordTests deadTest upperTest belowTest lowerTest meanTest upperRecords lowerRecords meanRecords deadTests upperTests belowTests lowerTests meanTests layoutTests numberTests shapedTests deliveryTests verdict.verdict marginOf shownMargin
+least-shortfalls-answered = refl
 
 -- The records of two rules, with different symbols pushed.
 pub rules-said : rulesOf (modelRecord 1 2 3 2 4 5 65536 ++ modelRecord 1 2 3 1 4 0 7) ≡ rule 1 2 3 (two 4 5) 65536 ∷ rule 1 2 3 (one 4) 7 ∷ []

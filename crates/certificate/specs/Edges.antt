@@ -1,5 +1,5 @@
 -- The starred edges of document 01 ("Edges"), as one table of cases over the definitions; and tables of margins, of bad input, of files that fail
--- twice, of the ends of ranges and numbers, and of the order of files. Outcomes stand by document 01's numbers.
+-- twice, of the ends of ranges and numbers, of the order of files, and of numbers that just pass. Outcomes stand by document 01's numbers.
 use Prim.Native.Nat.{ℕ}
 use mathlib.Core.List.{List, [], _∷_, _++_}
 use mathlib.Core.Path.{_≡_}
@@ -146,6 +146,7 @@ badInputs =
     ∷ input (oneRule 0) [] (refusedAt 13 0)
     ∷ input (oneRule 65537) [] (refusedAt 13 0)
     ∷ input (oneRule 32768 ++ oneRule 32768) [] (refusedAt 14 1)
+    ∷ input (oneRule 16384 ++ oneRule 49152) [] (refusedAt 14 1)
     ∷ input (modelRecord 0 0 0 1 0 0 32768 ++ oneRule 32768) [] (refusedAt 14 1)
     ∷ input (oneRule 65535) [] (refusedAt 15 0)
     ∷ input (oneRule 65536 ++ modelRecord 0 1 0 0 0 0 65535) [] (refusedAt 15 1)
@@ -246,15 +247,6 @@ longest =
     ∷ input (replicate 10250 0) [] (refusedAt 10 0)
     ∷ []
 
--- Three symbols, of which 0 pushes 1 over 2: the mean steps of what lies under are weighed by the upper of what lies over it.
-abbrev pub overUnder : List ℕ
-overUnder = modelRecord 0 0 0 2 1 2 65536 ++ (modelRecord 0 1 0 0 0 0 65536 ++ modelRecord 0 2 0 0 0 0 65536)
-
-abbrev pub overUnderSteps : ℕ → List ℕ
-overUnderSteps r =
-    deliveryRecord 85 0 0 0 1572864 ++ (deliveryRecord 85 0 1 0 1572864 ++ (deliveryRecord 85 0 2 0 1048576
-    ++ (deliveryRecord 82 0 0 0 r ++ (deliveryRecord 82 0 1 0 256 ++ deliveryRecord 82 0 2 0 256))))
-
 -- A delivery for two states and two symbols, with the uppers of (0, 0, 1), (0, 1, 0), (0, 1, 1), (1, 0, 0) and (1, 0, 1) left open, and the mean steps
 -- of (0, 1) and (1, 0).
 abbrev pub fourRows : ℕ → ℕ → ℕ → ℕ → ℕ → ℕ → ℕ → List ℕ
@@ -264,7 +256,7 @@ fourRows b c d e f r s =
     ++ (deliveryRecord 82 0 0 0 256 ++ (deliveryRecord 82 0 1 0 r ++ (deliveryRecord 82 1 0 0 s ++ deliveryRecord 82 1 1 0 256))))))))))
 
 -- Of two failures of one kind the first in file order is named, by p before Z and by Z before q; records ascend by L before Y; mean steps without
--- lowers; all blocks for one state; and what is pushed over another symbol.
+-- lowers; all blocks for one state.
 abbrev pub fileOrder : List Input
 fileOrder =
     input allToZero (fourRows 0 1048576 0 1048576 0 256 256) accepted
@@ -281,6 +273,46 @@ fileOrder =
     ∷ input (oneState 49152 16384)
     (deliveryRecord 85 0 0 0 1052672 ++ (deliveryRecord 76 0 0 0 1048574 ++ deliveryRecord 82 0 0 0 514))
     accepted
-    ∷ input overUnder (overUnderSteps 896) accepted
-    ∷ input overUnder (overUnderSteps 895) (refused 27 3 (negsuc 68719476735))
+    ∷ []
+
+-- Three symbols: 0 pushes 1 over 2, and 2 pushes 1. The uppers of 0 and 2 and their mean steps are left open.
+abbrev pub pushing : List ℕ
+pushing = modelRecord 0 0 0 2 1 2 65536 ++ (modelRecord 0 1 0 0 0 0 65536 ++ modelRecord 0 2 0 1 1 0 65536)
+
+abbrev pub pushingWith : ℕ → ℕ → ℕ → ℕ → List ℕ
+pushingWith u v r s =
+    deliveryRecord 85 0 0 0 u ++ (deliveryRecord 85 0 1 0 1310720 ++ (deliveryRecord 85 0 2 0 v
+    ++ (deliveryRecord 82 0 0 0 r ++ (deliveryRecord 82 0 1 0 256 ++ deliveryRecord 82 0 2 0 s))))
+
+-- Numbers that just pass, and each by one beyond.
+abbrev pub pushes : List Input
+pushes =
+    input pushing (pushingWith 1638400 1310720 1152 512) accepted
+    ∷ input pushing (pushingWith 1638399 1310720 1152 512) (refused 24 0 (negsuc 68719476735))
+    ∷ input pushing (pushingWith 1638400 1310719 1152 512) (refused 24 2 (negsuc 68719476735))
+    ∷ input pushing (pushingWith 1638400 1310720 1151 512) (refused 27 3 (negsuc 68719476735))
+    ∷ input pushing (pushingWith 1638400 1310720 1152 511) (refused 27 5 (negsuc 68719476735))
+    ∷ input wFile (wOther 524288 0 614242 0 1048576 512) (refused 26 4 (negsuc 19455213567))
+    ∷ []
+
+-- Shortfalls of a single unit, for 24, 26 and 27, each beside what passes.
+abbrev pub threeRules : ℕ → ℕ → ℕ → List ℕ
+threeRules a b c = modelRecord 0 0 0 0 0 0 a ++ (modelRecord 0 0 0 1 0 0 b ++ modelRecord 0 0 0 2 0 0 c)
+
+abbrev pub twoSymbols : List ℕ
+twoSymbols =
+    modelRecord 0 0 0 0 0 0 40160 ++ (modelRecord 0 0 0 1 1 0 13633 ++ (modelRecord 0 0 0 2 1 1 11743 ++ modelRecord 0 1 0 0 0 0 65536))
+
+abbrev pub twoSymbolsWith : ℕ → List ℕ
+twoSymbolsWith l =
+    deliveryRecord 85 0 0 0 1100000 ++ (deliveryRecord 85 0 1 0 1048577 ++ (deliveryRecord 76 0 0 0 l ++ deliveryRecord 76 0 1 0 1048463))
+
+abbrev pub leastShortfalls : List Input
+leastShortfalls =
+    input (threeRules 1 65534 1) (deliveryRecord 85 0 0 0 1048575) (refused 24 0 (negsuc 0))
+    ∷ input (threeRules 1 65534 1) (deliveryRecord 85 0 0 0 1048576) accepted
+    ∷ input twoSymbols (twoSymbolsWith 1048512) (refused 26 2 (negsuc 0))
+    ∷ input twoSymbols (twoSymbolsWith 1048511) accepted
+    ∷ input (threeRules 62840 2693 3) (deliveryRecord 85 0 0 0 1392865 ++ deliveryRecord 82 0 0 0 267) (refused 27 1 (negsuc 0))
+    ∷ input (threeRules 62840 2693 3) (deliveryRecord 85 0 0 0 1392865 ++ deliveryRecord 82 0 0 0 268) accepted
     ∷ []
