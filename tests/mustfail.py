@@ -81,8 +81,8 @@ TABLE = [
     Row("marks every entry as live", "live/everything_live", ("a | b | 0",)),
     Row("names the block before the place", "calls/block_missed_before_place",
         ("if !(inside) & true {", "refused((Reason::NotOfModel))", "if !block | false {", "refused(Reason::NoBlock)")),
-    Row("names a record's second reason before the first", "wellformed/two_reasons_swapped",
-        ("if !(ranged) & true {", "refused((Reason::OutOfRange), i)", "if !unused | false {", "refused(Reason::UnusedNotZero, i)")),
+    Row("names one reason of a record for another", "wellformed/two_reasons_swapped",
+        ("refused((Reason::OutOfRange), i)", "refused((Reason::UnusedNotZero), i)")),
 ]
 
 

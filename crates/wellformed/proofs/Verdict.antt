@@ -1,7 +1,7 @@
 -- The verdict step by step, as the code finds it.
 use Prim.Native.Nat.{ℕ, zero, suc, _+_, _-_, _<_}
 use native.Mathlib.Omega.{arith}
-use mathlib.Core.Bool.{Bool, true, false}
+use mathlib.Core.Bool.{true, false}
 use mathlib.Core.List.{List}
 use mathlib.Core.Path.{_≡_, _∙_}
 use lib.IntN.{pos}
@@ -16,7 +16,7 @@ use Rattle.outcome.proofs.Tests.{first-fails, first-passes, first-after, first-
 use Rattle.ppda.specs.Units.{weightUnit}
 use Rattle.model.specs.Records.{recordsOf, symbolsOf, key}
 use Rattle.model.specs.Rules.{rowSum}
-use Rattle.wellformed.specs.Verdict.{wholeRecords, rangeAt, unusedAt, weightAt, above, ascends, testsBy, recordTests, rowTests, rowsTests, modelTests, modelVerdict}
+use Rattle.wellformed.specs.Verdict.{wholeRecords, rangeAt, unusedAt, weightAt, above, ascends, recordTests, rowTests, rowsTests, modelTests, modelVerdict}
 
 -- The first record has none before it.
 pub ascends-first : (b : List ℕ) (i : ℕ) → i ≡ 0 → ascends b i ≡ true
@@ -32,11 +32,30 @@ ascends-after b (suc i) h =
     let d : suc i - 1 ≡ i = omega arith in
     rw (e, d)
 
--- The outcome of a record by what its tests found.
-pub record-by : (b : List ℕ) (i : ℕ) {r u w a : Bool} → r ≡ rangeAt b i → u ≡ unusedAt b i → w ≡ weightAt b i → a ≡ ascends b i
-    → first (testsBy r u w a i) ≡ first (recordTests b i)
-unfolding recordTests
-record-by b i ranged unused weighed ascending = rw (ranged, unused, weighed, ascending)
+-- The outcome of a record by its tests, in their order.
+module _ (b : List ℕ) (i : ℕ) where
+  pub range-fails : rangeAt b i ≡ false → first (recordTests b i) ≡ Refused OutOfRange i (pos 0)
+  unfolding recordTests first
+  range-fails r = rw r
+
+  pub unused-fails : rangeAt b i ≡ true → unusedAt b i ≡ false → first (recordTests b i) ≡ Refused UnusedNotZero i (pos 0)
+  unfolding recordTests first
+  unused-fails r u = rw (r, u)
+
+  pub weight-fails : rangeAt b i ≡ true → unusedAt b i ≡ true → weightAt b i ≡ false
+      → first (recordTests b i) ≡ Refused WeightOutOfRange i (pos 0)
+  unfolding recordTests first
+  weight-fails r u w = rw (r, u, w)
+
+  pub order-fails : rangeAt b i ≡ true → unusedAt b i ≡ true → weightAt b i ≡ true → ascends b i ≡ false
+      → first (recordTests b i) ≡ Refused NotAscending i (pos 0)
+  unfolding recordTests first
+  order-fails r u w a = rw (r, u, w, a)
+
+  pub record-passes : rangeAt b i ≡ true → unusedAt b i ≡ true → weightAt b i ≡ true → ascends b i ≡ true
+      → first (recordTests b i) ≡ Accepted
+  unfolding recordTests first
+  record-passes r u w a = rw (r, u, w, a)
 
 -- The outcome of a row by its sum.
 module _ (b : List ℕ) (k : ℕ) where

@@ -49,19 +49,14 @@ unfoldable pub ascends : List ℕ → ℕ → Bool
 ascends b zero = true
 ascends b (suc i) = above (key b (suc i)) (key b i)
 
--- The tests of record i, by whether its numbers are in range, those that it does not use are 0, its weight is in range and it lies above the
--- record before.
-abbrev pub testsBy : Bool → Bool → Bool → Bool → ℕ → List Test
-testsBy ranged unused weighed ascending i =
-    plain (not ranged) OutOfRange i
-    ∷ plain (not unused) UnusedNotZero i
-    ∷ plain (not weighed) WeightOutOfRange i
-    ∷ plain (not ascending) NotAscending i
-    ∷ []
-
 -- The tests of record i.
 unfoldable pub recordTests : List ℕ → ℕ → List Test
-recordTests b i = testsBy (rangeAt b i) (unusedAt b i) (weightAt b i) (ascends b i) i
+recordTests b i =
+    plain (not (rangeAt b i)) OutOfRange i
+    ∷ plain (not (unusedAt b i)) UnusedNotZero i
+    ∷ plain (not (weightAt b i)) WeightOutOfRange i
+    ∷ plain (not (ascends b i)) NotAscending i
+    ∷ []
 
 -- The test of row number k = p × g + Z. "Row" is document 01's term for a pair (p, Z).
 unfoldable pub rowTests : List ℕ → ℕ → List Test

@@ -26,7 +26,7 @@ ghost use Prim.Native.Nat.{_+_, _<_};
 ghost use Rattle.outcome.specs.Tests.{first};
 ghost use Rattle.model.specs.Format.{recordBytes};
 ghost use Rattle.model.specs.Records.{HasRecord, key};
-ghost use Rattle.wellformed.specs.Verdict.{rangeAt, unusedAt, weightAt, above, laterAt, ascends, testsBy, recordTests};
+ghost use Rattle.wellformed.specs.Verdict.{rangeAt, unusedAt, weightAt, above, laterAt, ascends, recordTests};
 
 // Whether the states, the symbols and the count of record i are in range.
 fn in_range(model: &[u8], i: usize) -> bool
@@ -97,32 +97,22 @@ fn ascends(model: &[u8], i: usize) -> bool
     lies_above(model, i - 1)
 }
 
-// The first reason that applies to record i, by what its tests found.
-fn first_reason(ranged: bool, unused: bool, weighed: bool, ascending: bool, i: usize) -> Outcome
-    ensures { λ r. ⌜ r ≡ first (testsBy ranged unused weighed ascending i) ⌝ }
-{
-    if !ranged {
-        return refused(Reason::OutOfRange, i);
-    }
-    if !unused {
-        return refused(Reason::UnusedNotZero, i);
-    }
-    if !weighed {
-        return refused(Reason::WeightOutOfRange, i);
-    }
-    if !ascending {
-        return refused(Reason::NotAscending, i);
-    }
-    Outcome::Accepted
-}
-
 // The tests of record i, in their order.
 pub(crate) fn check(model: &[u8], i: usize) -> Outcome
     requires { ⌜ HasRecord (now model) i ⌝ }
     ensures { λ r. ⌜ r ≡ first (recordTests (now (model .entry)) i) ⌝ }
 {
-    let ranged = in_range(model, i);
-    let unused = unused_zero(model, i);
-    let weighed = weight_in_range(model, i);
-    first_reason(ranged, unused, weighed, ascends(model, i), i)
+    if !in_range(model, i) {
+        return refused(Reason::OutOfRange, i);
+    }
+    if !unused_zero(model, i) {
+        return refused(Reason::UnusedNotZero, i);
+    }
+    if !weight_in_range(model, i) {
+        return refused(Reason::WeightOutOfRange, i);
+    }
+    if !ascends(model, i) {
+        return refused(Reason::NotAscending, i);
+    }
+    Outcome::Accepted
 }

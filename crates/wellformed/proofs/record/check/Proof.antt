@@ -1,40 +1,90 @@
--- `check`: the first reason by what the four tests found is the first of the record's tests.
-use mathlib.Core.Path.{_∙_}
+-- `check`: each return stands where the tests before it have passed and its own has failed.
+use mathlib.Core.Bool.{true}
+use mathlib.Core.Path.{_≡_, sym, _∙_}
+use denote.Ref.{now}
+use borrow.Author.Tests.{not-true, not-false}
 use borrow.Author.Needs.{needs}
-use Rattle.wellformed.proofs.Verdict.{record-by}
+use Rattle.wellformed.specs.Verdict.{rangeAt, unusedAt, weightAt, ascends}
+use Rattle.wellformed.proofs.Verdict.{range-fails, unused-fails, weight-fails, order-fails, record-passes}
 use Rattle.wellformed.proofs.record.check.Statement.{statement}
 use Rattle.wellformed.proofs.record.check.Tie as tie
+
+-- What each test that is passed says of the record.
+range : (c : tie.Else1) → let args = c .before .before .before .args in rangeAt (now (args .model)) (args .i) ≡ true
+range c = sym (c .before .in-range .ensures) ∙ not-false _ (c .if1 .left)
+
+unused : (c : tie.Else2) → let args = c .before .before .before .before .before .args in unusedAt (now (args .model)) (args .i) ≡ true
+unused c = sym (c .before .unused-zero .ensures) ∙ not-false _ (c .if2 .left)
+
+weighs : (c : tie.Else3) → let args = c .before .before .before .before .before .before .before .args in weightAt (now (args .model)) (args .i) ≡ true
+weighs c = sym (c .before .weight-in-range .ensures) ∙ not-false _ (c .if3 .left)
+
+order : (c : tie.Else4) → let args = c .before .before .before .before .before .before .before .before .before .args in ascends (now (args .model)) (args .i) ≡ true
+order c = sym (c .before .ascends .ensures) ∙ not-false _ (c .if4 .left)
 
 in-range-requires : tie.Need-in-range-requires
 in-range-requires c κs = search needs
 
+refused-requires : tie.Need-refused-requires
+refused-requires c κs = search needs
+
+returns : tie.Need-returns
+returns c =
+    c .refused .ensures ∙ sym (range-fails _ _ (sym (c .before .before .in-range .ensures) ∙ not-true _ (c .before .if1 .taken)))
+
 unused-zero-requires : tie.Need-unused-zero-requires
 unused-zero-requires c κs = search needs
+
+refused-requires-2 : tie.Need-refused-requires-2
+refused-requires-2 c κs = search needs
+
+returns-2 : tie.Need-returns-2
+returns-2 c =
+    c .refused2 .ensures
+    ∙ sym (unused-fails _ _ (range (c .before .before .before)) (sym (c .before .before .unused-zero .ensures) ∙ not-true _ (c .before .if2 .taken)))
 
 weight-in-range-requires : tie.Need-weight-in-range-requires
 weight-in-range-requires c κs = search needs
 
+refused-requires-3 : tie.Need-refused-requires-3
+refused-requires-3 c κs = search needs
+
+returns-3 : tie.Need-returns-3
+returns-3 c =
+    c .refused3 .ensures
+    ∙ sym (weight-fails _ _ (range (c .before .before .before .before .before)) (unused (c .before .before .before))
+    (sym (c .before .before .weight-in-range .ensures) ∙ not-true _ (c .before .if3 .taken)))
+
 ascends-requires : tie.Need-ascends-requires
 ascends-requires c κs = search needs
 
-first-reason-requires : tie.Need-first-reason-requires
-first-reason-requires c κs = search needs
+refused-requires-4 : tie.Need-refused-requires-4
+refused-requires-4 c κs = search needs
 
-returns : tie.Need-returns
-returns c =
-    let order = c .before in
-    let weight = order .before in
-    let unused = weight .before in
-    c .first-reason .ensures
-    ∙ record-by _ _ (unused .before .in-range .ensures) (unused .unused-zero .ensures) (weight .weight-in-range .ensures) (order .ascends .ensures)
+returns-4 : tie.Need-returns-4
+returns-4 c =
+    c .refused4 .ensures
+    ∙ sym (order-fails _ _ (range (c .before .before .before .before .before .before .before)) (unused (c .before .before .before .before .before)) (weighs (c .before .before .before))
+    (sym (c .before .before .ascends .ensures) ∙ not-true _ (c .before .if4 .taken)))
+
+returns-5 : tie.Need-returns-5
+returns-5 c =
+    sym (record-passes _ _ (range (c .before .before .before .before .before .before)) (unused (c .before .before .before .before)) (weighs (c .before .before)) (order c))
 
 pub check-spec : {M : Type 1} → statement M
 check-spec =
     tie.close
     (tie.spec
     in-range-requires
+    refused-requires
+    returns
     unused-zero-requires
+    refused-requires-2
+    returns-2
     weight-in-range-requires
+    refused-requires-3
+    returns-3
     ascends-requires
-    first-reason-requires
-    returns)
+    refused-requires-4
+    returns-4
+    returns-5)
