@@ -30,6 +30,7 @@ use Rattle.layout.specs.Layout.{upperRecords, lowerRecords, meanRecords, layout
 use Rattle.walks.specs.Order.{eachEntry, eachRow}
 use Rattle.inequalities.specs.Inequalities.{deadTest, upperTest, belowTest, lowerTest, meanTest, deadTests, upperTests, belowTests, lowerTests, meanTests}
 use Rattle.verdict.specs.Verdict.{numberTests, shapedTests, deliveryTests}
+use Rattle.shares.specs.Shares.{gapAt}
 use Rattle.certificate.specs.Margin.{marginOf, shownMargin}
 use Rattle.certificate.specs.Edges.{oneRule, zToZ, AllHold, wDelivery, edges, margins, answerTo, dueTo, badInputs, failTwice, placesAndEnds, greatest, lastUpper, fourthBytes, longest, fileOrder, pushes, leastShortfalls}
 use Rattle.model.proofs.Accepted.{is-model}
@@ -166,3 +167,10 @@ marks-shown = (refl, refl, refl)
 pub margins-kept : (kept 45875 ≡ 1002701) × (whole 45875 ≡ 1048576) × (kept 0 ≡ 144115188075855871) × (whole 0 ≡ 144115188075855872)
 unfolding kept
 margins-kept = (refl, refl, refl, refl)
+
+-- u − f(u) of W's live entries, as document 01 has them printed.
+pub w-gaps : (gapAt wFile 2 1 (wDelivery 524288 512) 0 0 0 ≡ 1970324836974592)
+    × (gapAt wFile 2 1 (wDelivery 524288 512) 0 0 1 ≡ 2251799813685248)
+    × (gapAt wFile 2 1 (wDelivery 524288 512) 1 0 1 ≡ 9007199254740992)
+unfolding gapAt uppersOf valueAt wordAt f overRow sum sumTo fits rulesOf listTo ruleOf recordsOf field weight
+w-gaps = (refl, refl, refl)
