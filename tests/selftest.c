@@ -7,7 +7,6 @@
 #include <stdio.h>
 #include <stdlib.h>
 #include <string.h>
-#include <sys/types.h>
 
 enum { W_BYTES = 40, WEIGHT_BYTE = 6 };
 
