@@ -30,7 +30,7 @@ use Rattle.layout.specs.Layout.{upperRecords, lowerRecords, meanRecords, layout
 use Rattle.walks.specs.Order.{eachEntry, eachRow}
 use Rattle.inequalities.specs.Inequalities.{deadTest, upperTest, belowTest, lowerTest, meanTest, deadTests, upperTests, belowTests, lowerTests, meanTests}
 use Rattle.verdict.specs.Verdict.{numberTests, shapedTests, deliveryTests}
-use Rattle.shares.specs.Shares.{gapAt}
+use Rattle.shares.specs.Gap.{gapAt}
 use Rattle.certificate.specs.Margin.{marginOf, shownMargin}
 use Rattle.certificate.specs.Edges.{oneRule, zToZ, AllHold, wDelivery, edges, margins, answerTo, dueTo, badInputs, failTwice, placesAndEnds, greatest, lastUpper, fourthBytes, longest, fileOrder, pushes, leastShortfalls}
 use Rattle.model.proofs.Accepted.{is-model}
