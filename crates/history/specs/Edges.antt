@@ -6,7 +6,7 @@ use mathlib.Core.Path.{_≡_}
 use lib.IntN.{negsuc}
 use Rattle.model.specs.W.{wFile}
 use Rattle.delivery.specs.Made.{deliveryRecord}
-use Rattle.certificate.specs.Edges.{oneRule, wDelivery}
+use Rattle.certificate.specs.Edges.{oneRule, wDelivery, allToZero, fourRows}
 use Rattle.register.specs.Filing as Filing
 use Rattle.calls.specs.Calls.{Call, clear, fileModel, fileDelivery, upper, lower, meanSteps, margin, live, Reply, cleared, accepted, known, new, value, refused, refusal}
 use Rattle.history.specs.Plain.{Event, pairOf, plainReply}
@@ -144,4 +144,22 @@ allExchanges =
     ∷ due (upper 0 0 1) (refusal 40)
     ∷ due (fileModel (oneRule 65536)) accepted
     ∷ due (upper 0 0 0) (refusal 42)
+    ∷ []
+
+-- Two states and two symbols: a delivery is new where an upper of the second symbol or of the second state alone differs; each number is that of its
+-- own entry and row.
+abbrev pub wideExchanges : List Event
+wideExchanges =
+    due (fileModel allToZero) accepted
+    ∷ due (fileDelivery (fourRows 0 1048577 0 1048578 0 257 258)) new
+    ∷ due (fileDelivery (fourRows 0 1048577 0 1048578 0 257 258)) known
+    ∷ due (fileDelivery (fourRows 0 1048579 0 1048578 0 257 258)) new
+    ∷ due (fileDelivery (fourRows 0 1048579 0 1048576 0 257 258)) new
+    ∷ due (upper 0 1 0) (value 1048579)
+    ∷ due (upper 1 0 0) (value 1048576)
+    ∷ due (meanSteps 0 1) (value 257)
+    ∷ due (meanSteps 1 0) (value 258)
+    ∷ due (live 0 1 0) (value 1)
+    ∷ due (live 1 0 1) (value 0)
+    ∷ due (upper 1 2 0) (refusal 44)
     ∷ []

@@ -16,7 +16,7 @@ use Rattle.wellformed.specs.Verdict.{modelVerdict}
 use Rattle.wellformed.proofs.Places.{model-record}
 use Rattle.verdict.specs.Verdict.{verdict}
 use Rattle.verdict.proofs.Places.{rule-record, bound-record}
-use Rattle.parts.specs.Parts.{bytesFrom, isWhole, recordPart, namesRule, namesBound, namesModel, inModel, inDelivery, offendingPart}
+use Rattle.parts.specs.Parts.{bytesFrom, nothing, isWhole, recordPart, namesRule, namesBound, namesModel, inModel, inDelivery, offendingPart}
 
 -- The part for a number and a whole record.
 module _ (n i : ℕ) (b d : List ℕ) where
@@ -57,3 +57,16 @@ offending-rule b d r i k e from to = rule-part (numberOf r) i b d from to (rule-
 pub offending-bound : (b d : List ℕ) (r : Reason) (i : ℕ) (k : ℤ) → verdict b d ≡ Refused r i k → 21 ≤ numberOf r → numberOf r ≤ 27
     → offendingPart (numberOf r) i b d ≡ inDelivery (bytesFrom (delivery.recordBytes * i) delivery.recordBytes)
 offending-bound b d r i k e from to = bound-part (numberOf r) i b d from to (bound-record b d r i k e from to)
+
+-- Every number above 27, those of the register among them, names nothing: the start of the delivery.
+pub offending-none : (n i : ℕ) (b d : List ℕ) → 27 < n → offendingPart n i b d ≡ inDelivery nothing
+unfolding offendingPart namesModel namesRule namesBound
+offending-none n i b d above =
+    rw (
+      ne-eqb n 10 (λ e. omega arith),
+      ne-eqb n 15 (λ e. omega arith),
+      le-leb 11 n (omega arith),
+      lt-leb n 14 (omega arith),
+      le-leb 21 n (omega arith),
+      lt-leb n 27 (omega arith),
+    )

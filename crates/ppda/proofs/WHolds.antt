@@ -1,6 +1,7 @@
 -- W is a model, its bounds are a certificate and (1, 0, 0) is dead: the theorems' hypotheses can be had.
-use Prim.Native.Nat.{ℕ, _*_, _^_, _≤_, _<_}
+use Prim.Native.Nat.{ℕ, _+_, _*_, _^_, _≤_, _<_}
 use native.Mathlib.Nat.{not-le-of-lt, not-suc-le-zero}
+use native.Mathlib.Omega.{arith}
 use mathlib.Core.Path.{_≡_, refl}
 use mathlib.Core.Bool.{true}
 use mathlib.Core.List.{[], _∷_, flatMap}
@@ -9,10 +10,10 @@ use Rattle.walks.specs.Sums.{sum, sumTo, sign}
 use Rattle.ppda.specs.Units.{mostChance}
 use Rattle.ppda.specs.Rules.{rule, fits, overRow, IsModel}
 use Rattle.ppda.specs.Runs.{after, lists, weigh, overRuns, overRunsWithin}
-use Rattle.ppda.specs.Chances.{mean, counted}
+use Rattle.ppda.specs.Chances.{mean, counted, chanceFrom}
 use Rattle.ppda.specs.Equations.{Vector, RowVector, rows, f, meanSide}
 use Rattle.ppda.specs.Live.{Live, mark, isLive, alive}
-use Rattle.ppda.specs.Bounds.{LowerAt, Means, Certificate}
+use Rattle.ppda.specs.Bounds.{LowerAt, Means, Certificate, UpperHolds, LowerHolds, MeanHolds, stepsOf}
 use Rattle.ppda.specs.W.{w, wUppers, wLowers, wMeans}
 use Rattle.ppda.proofs.Rows.{rules-of-test}
 use Rattle.walks.proofs.Lists.{at-rows, at-entries}
@@ -66,3 +67,21 @@ passes-by-lowers =
 pub refused-figure : (l : Vector) → Certificate w 2 1 wUppers l tooLow → ⊥
 unfolding meanSide overRow sum fits sumTo
 refused-figure l c = not-le-of-lt (lit< tt) (c .means 0 0 (lit< tt) (lit< tt))
+
+-- The promises bite: within 3 steps W returns in 0 with the chance 0.5625 and in 1 from 1 with certainty, and its mean is 1.5 steps.
+pub upper-bites : (u : ℕ) → UpperHolds w 0 0 0 u → 589824 ≤ u
+unfolding chanceFrom overRunsWithin overRuns sumTo sum lists flatMap after weigh fits
+upper-bites u h = omega (arith, h 3)
+
+pub mean-bites : (r : ℕ) → MeanHolds w 0 0 r → 384 ≤ r
+unfolding counted overRunsWithin overRuns sumTo sum lists flatMap after weigh fits
+mean-bites r h = omega (arith, h 3)
+
+-- With a margin of 1/2 and one round: l is at most 1/2 and half of u. With a margin of 1 and two rounds: l is at most the chance within 3 steps.
+pub lower-bites : (l u : ℕ) → LowerHolds w 0 0 0 l u 524288 → 2 * l ≤ 1048576 + u
+unfolding stepsOf chanceFrom overRunsWithin overRuns sumTo sum lists flatMap after weigh fits
+lower-bites l u h = omega (arith, h .as-shown 1)
+
+pub lower-bites-later : (l u : ℕ) → LowerHolds w 0 0 0 l u 1048576 → l ≤ 589824
+unfolding stepsOf chanceFrom overRunsWithin overRuns sumTo sum lists flatMap after weigh fits
+lower-bites-later l u h = omega (arith, h .as-shown 2)

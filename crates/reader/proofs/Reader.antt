@@ -4,7 +4,6 @@ use native.Mathlib.Omega.{arith}
 use mathlib.Core.Bool.{Bool, true, false, cond}
 use mathlib.Core.List.{List, [], _∷_, append-nil}
 use mathlib.Core.Logic.{_⊎_, inl, inr}
-use mathlib.Core.Option.{some}
 use mathlib.Core.Path.{_≡_, refl, ap, _∙_}
 use lib.IntN.{ℤ}
 use borrow.Author.Tests.{lt-ltb}
@@ -21,7 +20,6 @@ use Rattle.model.specs.Rules.{rulesOf}
 use Rattle.model.specs.Sizes.{Fits}
 use Rattle.model.proofs.Records.{sizes-fit}
 use Rattle.wellformed.specs.Verdict.{modelVerdict}
-use Rattle.wellformed.proofs.Accepted.{model-accepted}
 use Rattle.delivery.specs.Shapes.{hasLowers, hasMeans}
 use Rattle.delivery.specs.Numbers.{uppersOf, lowersOf, meansOf}
 use Rattle.verdict.specs.Verdict.{verdict}
@@ -30,10 +28,8 @@ use Rattle.verdict.proofs.Accepted.{delivery-accepted}
 use Rattle.certificate.specs.Margin.{marginOf}
 use Rattle.certificate.specs.Promised.{TrueFor}
 use Rattle.certificate.proofs.Holds.{true-of-shape}
-use Rattle.calls.specs.Calls.{Call, fileModel, fileDelivery, upper, lower, meanSteps, margin, Reply, accepted, new, value, refusal}
-use Rattle.history.specs.Plain.{lastModel, lastDelivery, pairOf, byVerdict, plainReply}
-use Rattle.history.specs.Run.{replyTo, history}
-use Rattle.history.proofs.Plain.{as-plain-pair}
+use Rattle.calls.specs.Calls.{upper, lower, meanSteps, margin, Reply, value, refusal}
+use Rattle.history.specs.Plain.{plainReply}
 use Rattle.text.specs.Decimal.{decimal, signed}
 use Rattle.text.specs.Reading.{wordsIn, numberIn}
 use Rattle.text.proofs.Reading.{decimal-number, words-of-nothing}
@@ -42,23 +38,12 @@ use Rattle.lines.proofs.Read.{refused-read}
 use Rattle.gaps.specs.Gaps.{gapOf}
 use Rattle.report.specs.Printed.{acceptedLines, printed}
 use Rattle.reader.specs.Reader.{LineIn, ChanceRead, Reader}
+use Rattle.reader.proofs.Filed.{asked, model-reply, delivery-reply, replied}
 use Rattle.reader.proofs.Words.{Found, of-table, of-margin, of-chance, of-steps, of-nothing, found}
 
--- ---- two files, filed one after the other
+-- ---- lines of accepted files
 
 module _ (b d : List ℕ) where
-  -- The replies after the two filings.
-  abbrev asked : Call → Reply
-  asked = replyTo (fileDelivery d ∷ fileModel b ∷ [])
-
-  model-reply : replyTo [] (fileModel b) ≡ byVerdict (modelVerdict b) accepted
-  unfolding plainReply history lastModel
-  model-reply = as-plain-pair [] (fileModel b)
-
-  delivery-reply : modelVerdict b ≡ Accepted → replyTo (fileModel b ∷ []) (fileDelivery d) ≡ byVerdict (verdict b d) new
-  unfolding plainReply history lastModel lastDelivery
-  delivery-reply is = as-plain-pair (fileModel b ∷ []) (fileDelivery d) ∙ rw (model-reply, is)
-
   refused-only : (n i : ℕ) (k : ℤ) (w : List ℕ) (ws : List (List ℕ)) → In (w ∷ ws) (wordsIn (refusedLine n i k)) → (w ≡ refusedWord) ⊎ (w ≡ [])
   refused-only n i k w ws found = go (rw (refused-read [] n i k) at (rw (← append-nil (refusedLine n i k)) at found))
     where
@@ -68,7 +53,7 @@ module _ (b d : List ℕ) where
 
   -- A line with another word is one of accepted files.
   accepted-line : (w : List ℕ) (ws : List (List ℕ)) → (w ≡ refusedWord → ⊥) → (w ≡ [] → ⊥) → LineIn b d (w ∷ ws)
-      → (verdict b d ≡ Accepted) × In (w ∷ ws) (wordsIn (acceptedLines asked b d))
+      → (verdict b d ≡ Accepted) × In (w ∷ ws) (wordsIn (acceptedLines (asked b d) b d))
   unfolding printed
   accepted-line w ws other apart i = go (modelVerdict b) refl (verdict b d) refl i
     where
@@ -80,43 +65,36 @@ module _ (b d : List ℕ) where
           pick (inr e) = apart e
 
       go : (o : Outcome) → modelVerdict b ≡ o → (a : Outcome) → verdict b d ≡ a → LineIn b d (w ∷ ws)
-          → (verdict b d ≡ Accepted) × In (w ∷ ws) (wordsIn (acceptedLines asked b d))
-      go Accepted m Accepted v i = (v, rw (model-reply, m, delivery-reply m, v) at i)
-      go Accepted m (Refused x j k) v i = absurd (not-refused (numberOf x) j k (rw (model-reply, m, delivery-reply m, v) at i))
-      go (Refused x j k) m a v i = absurd (not-refused (numberOf x) j k (rw (model-reply, m) at i))
+          → (verdict b d ≡ Accepted) × In (w ∷ ws) (wordsIn (acceptedLines (asked b d) b d))
+      go Accepted m Accepted v i = (v, rw (model-reply b d, m, delivery-reply b d m, v) at i)
+      go Accepted m (Refused x j k) v i = absurd (not-refused (numberOf x) j k (rw (model-reply b d, m, delivery-reply b d m, v) at i))
+      go (Refused x j k) m a v i = absurd (not-refused (numberOf x) j k (rw (model-reply b d, m) at i))
 
   module _ (is : verdict b d ≡ Accepted) (right : RightFiles b d) where
-    pair-is : pairOf (history (fileDelivery d ∷ fileModel b ∷ [])) ≡ record { model = some b; delivery = some d }
-    unfolding history lastModel lastDelivery
-    pair-is = let m = model-accepted b .1 (right .model) in rw (model-reply, m, delivery-reply m, is)
-
-    replied : (c : Call) → asked c ≡ plainReply (record { model = some b; delivery = some d }) c
-    replied c = as-plain-pair (fileDelivery d ∷ fileModel b ∷ []) c ∙ ap (λ x. plainReply x c) pair-is
-
     -- The reply for a block that the shape may have.
     abbrev in-block : Bool → ℕ → Reply
     in-block has v = cond has (value v) (refusal 43)
 
     upper-is : (p z q : ℕ) → p < statesOf b → z < symbolsOf b → q < statesOf b
-        → asked (upper p z q) ≡ value (uppersOf (statesOf b) (symbolsOf b) d p z q)
+        → asked b d (upper p z q) ≡ value (uppersOf (statesOf b) (symbolsOf b) d p z q)
     unfolding plainReply
-    upper-is p z q hp hz hq = replied (upper p z q) ∙ rw (lt-ltb p (statesOf b) hp, lt-ltb z (symbolsOf b) hz, lt-ltb q (statesOf b) hq)
+    upper-is p z q hp hz hq = replied b d is (upper p z q) ∙ rw (lt-ltb p (statesOf b) hp, lt-ltb z (symbolsOf b) hz, lt-ltb q (statesOf b) hq)
 
     lower-is : (p z q : ℕ) → p < statesOf b → z < symbolsOf b → q < statesOf b
-        → asked (lower p z q) ≡ in-block (hasLowers (right .shaped)) (lowersOf (statesOf b) (symbolsOf b) d p z q)
+        → asked b d (lower p z q) ≡ in-block (hasLowers (right .shaped)) (lowersOf (statesOf b) (symbolsOf b) d p z q)
     unfolding plainReply
     lower-is p z q hp hz hq =
-        replied (lower p z q)
+        replied b d is (lower p z q)
         ∙ rw (lt-ltb p (statesOf b) hp, lt-ltb z (symbolsOf b) hz, lt-ltb q (statesOf b) hq, right .delivery .shape)
 
     mean-is : (p z : ℕ) → p < statesOf b → z < symbolsOf b
-        → asked (meanSteps p z) ≡ in-block (hasMeans (right .shaped)) (meansOf (statesOf b) (symbolsOf b) (right .shaped) d p z)
+        → asked b d (meanSteps p z) ≡ in-block (hasMeans (right .shaped)) (meansOf (statesOf b) (symbolsOf b) (right .shaped) d p z)
     unfolding plainReply
-    mean-is p z hp hz = replied (meanSteps p z) ∙ rw (lt-ltb p (statesOf b) hp, lt-ltb z (symbolsOf b) hz, right .delivery .shape)
+    mean-is p z hp hz = replied b d is (meanSteps p z) ∙ rw (lt-ltb p (statesOf b) hp, lt-ltb z (symbolsOf b) hz, right .delivery .shape)
 
-    margin-is : asked margin ≡ in-block (hasLowers (right .shaped)) (marginOf b d)
+    margin-is : asked b d margin ≡ in-block (hasLowers (right .shaped)) (marginOf b d)
     unfolding plainReply
-    margin-is = replied margin ∙ rw (right .delivery .shape)
+    margin-is = replied b d is margin ∙ rw (right .delivery .shape)
 
     -- ---- numbers are small enough to be read back
 
@@ -145,8 +123,8 @@ module _ (b d : List ℕ) where
     read-back w n e l = ap numberIn e ∙ decimal-number n l
 
     chance-of : (p z q : ℕ) (wp wz wq wl wu : List ℕ) → p < statesOf b → z < symbolsOf b → q < statesOf b → wp ≡ decimal p → wz ≡ decimal z
-        → wq ≡ decimal q → wl ≡ shown (asked (lower p z q)) → wu ≡ shown (asked (upper p z q))
-        → ((m : List ℕ) → LineIn b d (marginWord ∷ m ∷ []) → m ≡ shown (asked margin)) → ChanceRead b d wp wz wq wl wu
+        → wq ≡ decimal q → wl ≡ shown (asked b d (lower p z q)) → wu ≡ shown (asked b d (upper p z q))
+        → ((m : List ℕ) → LineIn b d (marginWord ∷ m ∷ []) → m ≡ shown (asked b d margin)) → ChanceRead b d wp wz wq wl wu
     chance-of p z q wp wz wq wl wu hp hz hq ep ez eq el eu em =
         record {
           upper = upper-read;
@@ -171,7 +149,7 @@ module _ (b d : List ℕ) where
         upper-read : UpperHolds (rulesOf b) (numberIn wp) (numberIn wz) (numberIn wq) (numberIn wu)
         upper-read = rw (np, nz, nq, nu) (holds .uppers p z q hp hz hq)
 
-        by-shape : (t : Bool) → hasLowers (right .shaped) ≡ t → (wl ≡ 45 ∷ [] → ⊥) → (m : List ℕ) → m ≡ shown (asked margin)
+        by-shape : (t : Bool) → hasLowers (right .shaped) ≡ t → (wl ≡ 45 ∷ [] → ⊥) → (m : List ℕ) → m ≡ shown (asked b d margin)
             → LowerHolds (rulesOf b) (numberIn wp) (numberIn wz) (numberIn wq) (numberIn wl) (numberIn wu) (numberIn m)
         by-shape true has written m e =
             rw (np, nz, nq, nu, nl, nm) (holds .lowers has p z q hp hz hq)
@@ -185,7 +163,7 @@ module _ (b d : List ℕ) where
             absurd (written (el ∙ ap shown (lower-is p z q hp hz hq ∙ ap (λ t. in-block t (lowersOf (statesOf b) (symbolsOf b) d p z q)) has)))
 
     steps-of : (p z r : ℕ) (wp wz wr : List ℕ) → p < statesOf b → z < symbolsOf b → wp ≡ decimal p → wz ≡ decimal z → wr ≡ decimal r
-        → asked (meanSteps p z) ≡ value r → MeanHolds (rulesOf b) (numberIn wp) (numberIn wz) (numberIn wr)
+        → asked b d (meanSteps p z) ≡ value r → MeanHolds (rulesOf b) (numberIn wp) (numberIn wz) (numberIn wr)
     steps-of p z r wp wz wr hp hz ep ez er reply = by-shape (hasMeans (right .shaped)) refl
       where
         by-shape : (t : Bool) → hasMeans (right .shaped) ≡ t → MeanHolds (rulesOf b) (numberIn wp) (numberIn wz) (numberIn wr)
@@ -205,11 +183,11 @@ module _ (b d : List ℕ) where
 
   -- ---- the reader
 
-  margin-line : (m : List ℕ) → LineIn b d (marginWord ∷ m ∷ []) → m ≡ shown (asked margin)
-  margin-line m i = go (found asked (gapOf b d) (statesOf b) (symbolsOf b) _ (recordsOf b)
+  margin-line : (m : List ℕ) → LineIn b d (marginWord ∷ m ∷ []) → m ≡ shown (asked b d margin)
+  margin-line m i = go (found (asked b d) (gapOf b d) (statesOf b) (symbolsOf b) _ (recordsOf b)
       (accepted-line marginWord (m ∷ []) (λ e. let z : _≡_ {A = ℕ} 109 114 = cc in omega arith) (λ e. let z : _≡_ {A = ℕ} 0 1 = cc in omega arith) i .1))
     where
-      go : Found asked (gapOf b d) (statesOf b) (symbolsOf b) (marginWord ∷ m ∷ []) → m ≡ shown (asked margin)
+      go : Found (asked b d) (gapOf b d) (statesOf b) (symbolsOf b) (marginWord ∷ m ∷ []) → m ≡ shown (asked b d margin)
       go (of-table ws e) = let z : _≡_ {A = ℕ} 109 116 = cc in absurd (omega arith)
       go (of-margin e) = cc
       go (of-chance k l e) = let z : _≡_ {A = ℕ} 109 99 = cc in absurd (omega arith)
@@ -221,9 +199,9 @@ module _ (b d : List ℕ) where
       let (is, line) =
       accepted-line chanceWord (p ∷ z ∷ q ∷ l ∷ u ∷ gap ∷ []) (λ e. let z : _≡_ {A = ℕ} 99 114 = cc in omega arith)
       (λ e. let z : _≡_ {A = ℕ} 0 1 = cc in omega arith) i in
-      go is (delivery-accepted b d .0 is) (found asked (gapOf b d) (statesOf b) (symbolsOf b) _ (recordsOf b) line)
+      go is (delivery-accepted b d .0 is) (found (asked b d) (gapOf b d) (statesOf b) (symbolsOf b) _ (recordsOf b) line)
     where
-      go : verdict b d ≡ Accepted → RightFiles b d → Found asked (gapOf b d) (statesOf b) (symbolsOf b) (chanceWord ∷ p ∷ z ∷ q ∷ l ∷ u ∷ gap ∷ [])
+      go : verdict b d ≡ Accepted → RightFiles b d → Found (asked b d) (gapOf b d) (statesOf b) (symbolsOf b) (chanceWord ∷ p ∷ z ∷ q ∷ l ∷ u ∷ gap ∷ [])
           → ChanceRead b d p z q l u
       go is right (of-table ws e) = let z : _≡_ {A = ℕ} 99 116 = cc in absurd (omega arith)
       go is right (of-margin e) = let z : _≡_ {A = ℕ} 99 109 = cc in absurd (omega arith)
@@ -241,9 +219,9 @@ module _ (b d : List ℕ) where
       let (is, line) =
       accepted-line stepsWord (p ∷ z ∷ r ∷ []) (λ e. let z : _≡_ {A = ℕ} 115 114 = cc in omega arith)
       (λ e. let z : _≡_ {A = ℕ} 0 1 = cc in omega arith) i in
-      go is (delivery-accepted b d .0 is) (found asked (gapOf b d) (statesOf b) (symbolsOf b) _ (recordsOf b) line)
+      go is (delivery-accepted b d .0 is) (found (asked b d) (gapOf b d) (statesOf b) (symbolsOf b) _ (recordsOf b) line)
     where
-      go : verdict b d ≡ Accepted → RightFiles b d → Found asked (gapOf b d) (statesOf b) (symbolsOf b) (stepsWord ∷ p ∷ z ∷ r ∷ [])
+      go : verdict b d ≡ Accepted → RightFiles b d → Found (asked b d) (gapOf b d) (statesOf b) (symbolsOf b) (stepsWord ∷ p ∷ z ∷ r ∷ [])
           → MeanHolds (rulesOf b) (numberIn p) (numberIn z) (numberIn r)
       go is right (of-table ws e) = let z : _≡_ {A = ℕ} 115 116 = cc in absurd (omega arith)
       go is right (of-margin e) = let z : _≡_ {A = ℕ} 115 109 = cc in absurd (omega arith)

@@ -1,2 +1,3 @@
--- What a reader of a printout learns.
+-- What a reader of a printout learns, and whole printouts byte by byte.
 pub mod Reader
+pub mod Edges
