@@ -25,7 +25,7 @@ class Row(NamedTuple):
     twin: tuple   # a new line for each that the edit has, in their order
 
 
-# Registers that have to break the contracts (document 01, "Conditions of acceptance", 3); the mistakes of method; and the order of reasons.
+# Registers that have to break the contracts (document 01, "Conditions of acceptance", 3); the mistakes of method; live marks, and reasons.
 TABLE = [
     Row("takes no model", "filing/takes_no_model", ("let found = wellformed::check(file); found",)),
     Row("takes no model", "wellformed/takes_no_model", ("    (0 < n) & ((n % RECORD_BYTES == 0) & (n <= 10240))",)),
@@ -58,6 +58,7 @@ TABLE = [
         ("(y > upper) | (strict & (live & (y >= upper)))",)),
     Row("takes a lower without the strict upper, by definition", "ppda/strict_upper_left_out",
         ("  pub strict : isLive (alive m s g p z q) ≡ true → f m s (2 ^ 20) u p z q < u p z q * sumUnit",)),
+    # a rule's product: its weight times what it leads to, which for two pushed symbols is the sum over t; 2^36 of its unit are a 1,048,576th
     Row("rounds each product, its chance included, down to 1,048,576ths before adding", "equations/products_rounded",
         ("    weight * through >> 0 << 0",)),
     Row("leaves out the middle state t", "equations/middle_state_left_out",
@@ -66,6 +67,7 @@ TABLE = [
         ("(value(uppers, n, r, y, t)) * mean(means, n, t, x)",)),
     Row("leaves out the middle state t, by definition", "ppda/middle_state_left_out",
         ("through s d v r (two y x) q = sumTo (λ m. v r y m * v m x q) s",)),
+    # `rest` starts with the lowers; `check-requires` asks that the block handed on is in range, and `returns-2` that it is the uppers
     Row("weighs r(t, X) by the lowers", "certificate/mean_steps_by_the_lowers",
         ("let weighs = uppers; return means::check(model, starts, weighs, block, n, v + v);",)),
     Row("weighs r(t, X) by the lowers, by definition", "ppda/mean_steps_by_the_lowers",
@@ -73,6 +75,7 @@ TABLE = [
     Row("takes k rounds of f from zero for k steps", "ppda/k_steps_for_k_rounds", ("stepsOf k = (1 + 1) ^ k - 1",)),
     Row("promises the lower of k rounds for more steps", "ppda/lower_promised_later", ("stepsOf k = (1 + 1) ^ k - 1",)),
     Row("caps uppers at 1", "delivery/uppers_capped_at_one", ("Block::Uppers => 2097152,",)),
+    # whatever the code does: an upper of W, 1,179,648, is above the cap
     Row("caps uppers at 1, by definition", "ppda/uppers_capped_at_one", ("mostChance = 2 ^ 21",)),
 
     Row("finds the live marks a round short", "live/marks_a_round_short", ("while left > 0 {",)),
@@ -163,6 +166,7 @@ def first_error(log):
     if computed >= 0 or re.match("as printed", text):
         text = re.split(r"\n  expected type|\n  `[^`]*`[^\n]* do(?:es)? not unfold", text, maxsplit=1)[0]
     text = re.split(r" It read \d+ hypotheses", text, maxsplit=1)[0]
+    text = re.sub(r" `[^`]*…\[[^`]*`\s*= \d+,", "", text)  # a term that omega's list of values cuts short
     text = re.sub(r"\s+", " ", start[0] + locals_named(text))
     text = re.sub(r"\bc(?: \.before)+", "c ..", text)
     return re.sub(r"\b(?:Rattle·\w+(?:·\w+)?|mathlib|native|lib|mir|borrow|denote|Prim)(?:\.[\w·-]+)*\.(?=[\w_«])", "", text)

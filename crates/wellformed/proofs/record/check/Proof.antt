@@ -30,7 +30,7 @@ refused-requires c κs = search needs
 
 returns : tie.Need-returns
 returns c =
-    c .refused .ensures ∙ sym (range-fails _ _ (sym (c .before .before .in-range .ensures) ∙ not-true _ (c .before .if1 .taken)))
+    rw (range-fails _ _ (sym (c .before .before .in-range .ensures) ∙ not-true _ (c .before .if1 .taken))) (c .refused .ensures)
 
 unused-zero-requires : tie.Need-unused-zero-requires
 unused-zero-requires c κs = search needs
@@ -40,8 +40,8 @@ refused-requires-2 c κs = search needs
 
 returns-2 : tie.Need-returns-2
 returns-2 c =
-    c .refused2 .ensures
-    ∙ sym (unused-fails _ _ (range (c .before .before .before)) (sym (c .before .before .unused-zero .ensures) ∙ not-true _ (c .before .if2 .taken)))
+    rw (unused-fails _ _ (range (c .before .before .before)) (sym (c .before .before .unused-zero .ensures) ∙ not-true _ (c .before .if2 .taken)))
+    (c .refused2 .ensures)
 
 weight-in-range-requires : tie.Need-weight-in-range-requires
 weight-in-range-requires c κs = search needs
@@ -51,9 +51,8 @@ refused-requires-3 c κs = search needs
 
 returns-3 : tie.Need-returns-3
 returns-3 c =
-    c .refused3 .ensures
-    ∙ sym (weight-fails _ _ (range (c .before .before .before .before .before)) (unused (c .before .before .before))
-    (sym (c .before .before .weight-in-range .ensures) ∙ not-true _ (c .before .if3 .taken)))
+    rw (weight-fails _ _ (range (c .before .before .before .before .before)) (unused (c .before .before .before))
+    (sym (c .before .before .weight-in-range .ensures) ∙ not-true _ (c .before .if3 .taken))) (c .refused3 .ensures)
 
 ascends-requires : tie.Need-ascends-requires
 ascends-requires c κs = search needs
@@ -63,9 +62,8 @@ refused-requires-4 c κs = search needs
 
 returns-4 : tie.Need-returns-4
 returns-4 c =
-    c .refused4 .ensures
-    ∙ sym (order-fails _ _ (range (c .before .before .before .before .before .before .before)) (unused (c .before .before .before .before .before)) (weighs (c .before .before .before))
-    (sym (c .before .before .ascends .ensures) ∙ not-true _ (c .before .if4 .taken)))
+    rw (order-fails _ _ (range (c .before .before .before .before .before .before .before)) (unused (c .before .before .before .before .before)) (weighs (c .before .before .before))
+    (sym (c .before .before .ascends .ensures) ∙ not-true _ (c .before .if4 .taken))) (c .refused4 .ensures)
 
 returns-5 : tie.Need-returns-5
 returns-5 c =
