@@ -4,7 +4,7 @@ A word is checked by its form: a path, a must-fail edit, a path of code (`a::b`)
 definition or type (with a capital inside or first). A word of no such form, such as a value or a plain word, is checked where the document says which file or
 crate it stands in: `name` (`file`), `name` of `file`, (`name`, `file`), a list after a folder, a column "stands in" or "its calls". Of a command line only
 its paths are checked. What describes the past (CHANGELOG.md, docs/changes/) is not checked: names there may have gone. The table of crates has each crate
-of crates.txt, in its order, and every rule that docs/RULES.md names has one line there.
+of crates.txt, in its order, every rule that docs/RULES.md names has one line there, and docs/READING.md lists every file of definitions to believe.
 """
 import re
 import sys
@@ -147,7 +147,7 @@ def code_path_missing(block, word):
 
 def definition_missing(block, word):
     files = [path for path in SOURCES for crate in block.crates if path.stem == word and crate in path.parents]
-    return None if files or anywhere("specs", word) or anywhere("src", word) else "no such definition or type"
+    return None if files or any(anywhere(part, word) for part in ("specs", "proofs", "src")) else "no such definition or type"
 
 
 def missing(block, word):
@@ -270,10 +270,20 @@ def rules_wrong(text):
     return ["docs/RULES.md: %s has %d lines" % (rule, told.count(rule)) for rule in dict.fromkeys(RULE.findall(text)) if told.count(rule) != 1]
 
 
+def unlisted(text):
+    """The files of definitions that READING's list of what has to be believed does not name: in one item, a word for the crate and one for the file."""
+    section = text.split("## What has to be believed", 1)[1].split("\n## ", 1)[0]
+    items = [set(re.findall(r"[A-Za-z]+", " ".join(item.split("`")[1::2]))) for item in re.split(r"\n(?=\d+\. )", section)]
+    believed = [path for path in DEFINED if path.parent.name == "specs" and path.stem not in ("Lib", "Contracts")]
+    return ["docs/READING.md does not list %s" % path.relative_to(ROOT) for path in believed
+            if not any({path.parent.parent.name, path.stem} <= item for item in items)]
+
+
 def main():
     documents = [ROOT / "README.md", ROOT / "CONTRIBUTING.md", *sorted((ROOT / "docs").glob("*.md"))]
     told = [wrongs(document) for document in documents]
     lines = [line for wrong, _ in told for line in wrong] + rules_wrong((ROOT / "docs/RULES.md").read_text(encoding="utf-8"))
+    lines += unlisted((ROOT / "docs/READING.md").read_text(encoding="utf-8"))
     if [crate for _, tabled in told for crate in tabled] != list(CRATES):
         lines.append("the table of crates is not that of crates.txt")
     if lines:

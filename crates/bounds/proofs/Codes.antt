@@ -18,7 +18,8 @@ use Rattle.verdict.specs.Verdict.{verdict}
 use Rattle.certificate.specs.Edges.{refused, answerOf, wDelivery}
 use Rattle.certificate.proofs.Edges.{edges-hold}
 use Rattle.verdict.proofs.Places.{place-fits}
-use Rattle.bounds.specs.Codes.{placeOf, codeOf, shortfallOf}
+use Rattle.bounds.specs.Codes.{codeOf, shortfallOf}
+use Rattle.bounds.specs.Contracts.{placeOf}
 
 -- ---- what the number says
 

@@ -5,11 +5,6 @@ use Rattle.outcome.specs.declared.Outcome.{Outcome}
 use Rattle.outcome.specs.declared.Outcome.the-variants.{Accepted, Refused}
 use Rattle.outcome.specs.Reasons.{numberOf}
 
--- The place of a refusal.
-abbrev pub placeOf : Outcome → ℕ
-placeOf Accepted = 0
-placeOf (Refused r i k) = i
-
 -- An outcome as one number.
 abbrev pub codeOf : Outcome → ℕ
 codeOf Accepted = 0

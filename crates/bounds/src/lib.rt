@@ -7,7 +7,8 @@ ghost use mathlib.Core.Path.{_≡_};
 ghost use Prim.Native.Nat.{_<_};
 ghost use Rattle.wellformed.specs.Verdict.{modelVerdict};
 ghost use Rattle.verdict.specs.Verdict.{verdict};
-ghost use Rattle.bounds.specs.Codes.{placeOf, codeOf, shortfallOf};
+ghost use Rattle.bounds.specs.Codes.{codeOf, shortfallOf};
+ghost use Rattle.bounds.specs.Contracts.{placeOf};
 
 // An outcome as one number: the reason's number × 65,536 + place, or 0 when accepted.
 fn code(outcome: Outcome) -> u32

@@ -16,7 +16,7 @@ use Rattle.delivery.specs.declared.shape.Shaped.the-variants.{Of}
 use Rattle.delivery.specs.Shapes.{hasLowers, shapeOf}
 use Rattle.delivery.specs.Numbers.{uppersOf}
 use Rattle.live.specs.Contracts.{exitMarks}
-use Rattle.model.specs.Accepted.{Sized}
+use Rattle.model.specs.Contracts.{Sized}
 use Rattle.model.proofs.Accepted.{sized-model}
 use Rattle.ppda.proofs.Vectors.{f-same}
 use Rattle.shares.specs.Contracts.{Strict, leastShare}

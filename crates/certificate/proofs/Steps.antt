@@ -32,7 +32,7 @@ use Rattle.delivery.specs.Numbers.{uppersOf}
 use Rattle.layout.specs.Layout.{layoutTests}
 use Rattle.delivery.specs.Contracts.{Within}
 use Rattle.live.specs.Contracts.{ExitsOf, exitMarks}
-use Rattle.model.specs.Accepted.{Sized}
+use Rattle.model.specs.Contracts.{Sized}
 use Rattle.model.proofs.Accepted.{sized-model}
 use Rattle.inequalities.specs.Inequalities.{deadTests, belowTests, lowerTests}
 use Rattle.inequalities.specs.declared.sides.Side.the-variants.{Upper, StrictUpper, Lower}

@@ -12,12 +12,13 @@ use Rattle.walks.specs.Order.{entriesIn, rowsIn}
 use Rattle.ppda.specs.Equations.{Vector}
 use Rattle.model.specs.declared.sizes.Sizes.{Sizes}
 use Rattle.model.specs.Rules.{rulesOf}
-use Rattle.model.specs.Accepted.{Sized}
+use Rattle.model.specs.Contracts.{Sized}
 use Rattle.delivery.specs.declared.shape.Shape.{Shape}
 use Rattle.delivery.specs.declared.shape.Shaped.the-variants.{Of}
 use Rattle.delivery.specs.Format.{recordBytes}
 use Rattle.delivery.specs.Shapes.{hasLowers, hasMeans, meansFrom, shapeOf}
-use Rattle.delivery.specs.Numbers.{uppersOf, rowsOfBlock}
+use Rattle.delivery.specs.Numbers.{uppersOf}
+use Rattle.delivery.specs.Contracts.{rowsOfBlock}
 use Rattle.layout.specs.Layout.{onlyIf, layoutTests}
 use Rattle.delivery.specs.Contracts.{Within, Chances}
 use Rattle.rows.specs.Contracts.{Indexed}

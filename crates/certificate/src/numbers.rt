@@ -18,7 +18,7 @@ use rows::find_starts;
 ghost use mathlib.Core.Path.{_≡_};
 ghost use mathlib.Core.Bool.{cond};
 ghost use Rattle.outcome.specs.Tests.{first};
-ghost use Rattle.model.specs.Sizes.{Fits};
+ghost use Rattle.model.specs.Contracts.{Fits};
 ghost use Rattle.delivery.specs.Contracts.{Chances};
 ghost use Rattle.rows.specs.Contracts.{Indexed};
 ghost use Rattle.inequalities.specs.declared.sides.Side.the-variants.{Upper, StrictUpper};

@@ -17,7 +17,8 @@ use Rattle.delivery.specs.declared.shape.Shaped.{Shaped}
 use Rattle.delivery.specs.declared.shape.Shaped.the-variants.{Of, Unknown}
 use Rattle.delivery.specs.declared.shape.Block.the-variants.{Lowers}
 use Rattle.delivery.specs.Format.{recordBytes}
-use Rattle.delivery.specs.Records.{HasRecord, kindAt, kindOf}
+use Rattle.delivery.specs.Records.{kindAt, kindOf}
+use Rattle.delivery.specs.Contracts.{HasRecord}
 use Rattle.delivery.specs.Shapes.{hasLowers, hasMeans, meansFrom, recordsIn, longAs, lowersOrMeans, shapeOf}
 use Rattle.walks.specs.Order.{entriesIn, rowsIn}
 

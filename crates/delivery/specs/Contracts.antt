@@ -3,15 +3,16 @@ use Prim.Native.Nat.{ℕ, _+_, _*_, _≤_}
 use mathlib.Core.List.{List}
 use mathlib.Core.Path.{_≡_}
 use lib.ListN.{length}
-use Rattle.walks.specs.Order.{rowsIn, entriesIn}
+use Rattle.walks.specs.Order.{rowsIn, entriesIn, rowAt}
 use Rattle.ppda.specs.Units.{mostChance, mostMean}
 use Rattle.model.specs.declared.sizes.Sizes.{Sizes}
-use Rattle.model.specs.Sizes.{Fits}
+use Rattle.model.specs.Contracts.{Fits}
 use Rattle.delivery.specs.declared.shape.Shape.{Shape}
 use Rattle.delivery.specs.declared.shape.Shaped.the-variants.{Of}
 use Rattle.delivery.specs.Format.{recordBytes}
 use Rattle.delivery.specs.Records.{valueAt}
 use Rattle.delivery.specs.Shapes.{shapeOf}
+use Rattle.ppda.specs.Equations.{RowVector}
 
 -- The file has n records, and n records from record `at` on.
 abbrev pub HasRecords : ℕ → List ℕ → Type 0
@@ -36,3 +37,12 @@ MeanSteps n d = Within d (rowsIn (n .states) (n .symbols)) mostMean
 pub record ShapedFile (n : Sizes) (h : Shape) (d : List ℕ) : Type 0 where
   pub fits : Fits (n .states) (n .symbols)
   pub of : shapeOf (n .states) (n .symbols) d ≡ Of h
+
+-- The numbers of a block by itself: `uppersOf` reads the first V values of any bytes, so of the part from record V on it reads the lowers. Mean
+-- steps are the values by rows.
+abbrev pub rowsOfBlock : ℕ → List ℕ → RowVector
+rowsOfBlock g d p z = valueAt d (rowAt g p z)
+
+-- Record i is whole in the file.
+abbrev pub HasRecord : List ℕ → ℕ → Type 0
+HasRecord d i = recordBytes * (i + 1) ≤ length d

@@ -16,8 +16,3 @@ lowersOf s g d p z q = valueAt d (entriesIn s g + entryAt s g p z q)
 
 unfoldable pub meansOf : ℕ → ℕ → Shape → List ℕ → RowVector
 meansOf s g h d p z = valueAt d (meansFrom s g h + rowAt g p z)
-
--- The numbers of a block by itself: `uppersOf` reads the first V values of any bytes, so of the part from record V on it reads the lowers. Mean
--- steps are the values by rows.
-abbrev pub rowsOfBlock : ℕ → List ℕ → RowVector
-rowsOfBlock g d p z = valueAt d (rowAt g p z)

@@ -1,18 +1,14 @@
 -- The records of a delivery file.
-use Prim.Native.Nat.{ℕ, _+_, _*_, _≤_}
+use Prim.Native.Nat.{ℕ, _+_, _*_}
 use mathlib.Core.Bool.{Bool, _&&_}
 use mathlib.Core.List.{List}
 use lib.Dec.{eqb, leb}
-use lib.ListN.{length, getD}
+use lib.ListN.{getD}
 use Rattle.words.specs.Words.{wordAt}
 use Rattle.ppda.specs.Units.{mostChance, leastMean, mostMean}
 use Rattle.delivery.specs.declared.shape.Block.{Block}
 use Rattle.delivery.specs.declared.shape.Block.the-variants.{Uppers, Lowers, Means}
 use Rattle.delivery.specs.Format.{recordBytes, kindByte, stateByte, symbolByte, exitByte, valueByte, upperKind, lowerKind, meanKind}
-
--- Record i is whole in the file.
-abbrev pub HasRecord : List ℕ → ℕ → Type 0
-HasRecord d i = recordBytes * (i + 1) ≤ length d
 
 -- Byte k of record i.
 unfoldable pub byteOf : List ℕ → ℕ → ℕ → ℕ

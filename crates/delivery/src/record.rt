@@ -16,7 +16,8 @@ use super::shape::Block;
 ghost use mathlib.Core.Path.{_≡_};
 ghost use Prim.Native.Nat.{_<_, _^_};
 ghost use Rattle.delivery.specs.Format.{recordBytes};
-ghost use Rattle.delivery.specs.Records.{HasRecord, byteOf, kindAt, stateAt, symbolAt, exitAt, valueAt, kindOf, leastOf, mostOf, isDue, inRange};
+ghost use Rattle.delivery.specs.Records.{byteOf, kindAt, stateAt, symbolAt, exitAt, valueAt, kindOf, leastOf, mostOf, isDue, inRange};
+ghost use Rattle.delivery.specs.Contracts.{HasRecord};
 
 // Byte k of record i.
 fn byte_of(delivery: &[u8], i: usize, k: usize) -> usize

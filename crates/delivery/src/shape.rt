@@ -8,9 +8,9 @@ ghost use mathlib.Core.Path.{_≡_};
 ghost use Prim.Native.Nat.{_+_, _≤_};
 ghost use Rattle.walks.specs.Order.{entriesIn};
 ghost use Rattle.model.specs.Format.{mostRows};
-ghost use Rattle.model.specs.Sizes.{Fits};
+ghost use Rattle.model.specs.Contracts.{Fits};
 ghost use Rattle.delivery.specs.Format.{mostRecords};
-ghost use Rattle.delivery.specs.Records.{HasRecord};
+ghost use Rattle.delivery.specs.Contracts.{HasRecord};
 ghost use Rattle.delivery.specs.Shapes.{hasLowers, hasMeans, meansFrom, recordsIn, longAs, lowersOrMeans, shapeOf};
 
 // The four shapes: uppers; with lowers; with mean steps; with both.

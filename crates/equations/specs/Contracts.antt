@@ -7,7 +7,8 @@ use Rattle.ppda.specs.Equations.{through, f, stepsThrough, meanSide}
 use Rattle.model.specs.declared.sizes.Sizes.{Sizes}
 use Rattle.model.specs.Records.{target}
 use Rattle.model.specs.Rules.{pushAt, rulesOf}
-use Rattle.delivery.specs.Numbers.{uppersOf, rowsOfBlock}
+use Rattle.delivery.specs.Numbers.{uppersOf}
+use Rattle.delivery.specs.Contracts.{rowsOfBlock}
 
 -- One product of f at a rule that pushes two, for the numbers of the block d: v(r, y, t) × v(t, x, q).
 abbrev pub product : ℕ → ℕ → List ℕ → ℕ → ℕ → ℕ → ℕ → ℕ → ℕ

@@ -11,7 +11,7 @@ use Rattle.walks.proofs.Places.{row-at, entry-below}
 use Rattle.ppda.proofs.Vectors.{f-same}
 use Rattle.model.specs.declared.sizes.Sizes.{Sizes}
 use Rattle.model.specs.Sizes.{sizesOf}
-use Rattle.model.specs.Accepted.{Sized}
+use Rattle.model.specs.Contracts.{Sized}
 use Rattle.model.specs.Rules.{rulesOf}
 use Rattle.model.proofs.Accepted.{sized-model}
 use Rattle.delivery.specs.Format.{recordBytes}
@@ -28,7 +28,7 @@ use Rattle.verdict.proofs.Accepted.{delivery-accepted}
 use Rattle.certificate.proofs.Blocks.{part-same}
 use Rattle.certificate.proofs.Rest.{uppers-within}
 use Rattle.certificate.proofs.Steps.{sized-by-verdict}
-use Rattle.gaps.specs.Gaps.{Gaps}
+use Rattle.gaps.specs.Contracts.{Gaps}
 
 -- ---- every entry, by its number
 

@@ -12,7 +12,7 @@ ghost use Rattle.outcome.specs.declared.Outcome.the-variants.{Accepted};
 ghost use Rattle.model.specs.Sizes.{sizesOf};
 ghost use Rattle.shares.specs.Contracts.{Standing};
 ghost use Rattle.verdict.specs.Verdict.{verdict};
-ghost use Rattle.gaps.specs.Gaps.{Gaps};
+ghost use Rattle.gaps.specs.Contracts.{Gaps};
 
 // At every entry of a block of uppers that stand, by its number.
 fn gaps_with(model: &[u8], starts: &[u16; STARTS], uppers: &[u8], n: Sizes) -> [u64; MOST_ENTRIES]

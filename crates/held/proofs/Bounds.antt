@@ -8,7 +8,7 @@ use lib.Dec.{ltb}
 use Rattle.walks.proofs.Exactly.{lt-exactly, both}
 use Rattle.ppda.specs.Equations.{entries, rows}
 use Rattle.model.specs.declared.sizes.Sizes.{Sizes}
-use Rattle.model.specs.Sizes.{Narrow}
+use Rattle.model.specs.Contracts.{Narrow}
 use Rattle.held.specs.Places.{hasRow, hasEntry, rowValue, entryValue}
 
 pub row-exactly : (s g p z : ℕ) → (hasRow s g p z ≡ true) ↔ ((p < s) × (z < g))

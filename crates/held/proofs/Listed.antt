@@ -21,10 +21,11 @@ use Rattle.model.specs.Format.{mostEntries}
 use Rattle.model.specs.Records.{statesOf, symbolsOf}
 use Rattle.model.specs.Rules.{rulesOf}
 use Rattle.wellformed.specs.Verdict.{modelVerdict}
-use Rattle.model.specs.Accepted.{Sized}
+use Rattle.model.specs.Contracts.{Sized}
 use Rattle.wellformed.proofs.Accepted.{model-accepted}
 use Rattle.delivery.specs.Records.{valueAt}
-use Rattle.delivery.specs.Numbers.{uppersOf, rowsOfBlock}
+use Rattle.delivery.specs.Numbers.{uppersOf}
+use Rattle.delivery.specs.Contracts.{rowsOfBlock}
 use Rattle.rows.proofs.Ranges.{set-more}
 use Rattle.live.specs.Contracts.{bitOf, exitMarks, ExitsOf}
 use Rattle.verdict.specs.Marks.{liveMark}

@@ -22,7 +22,7 @@ ghost use Prim.Native.Nat.{_≤_};
 ghost use lib.ListN.{length};
 ghost use Rattle.outcome.specs.declared.Outcome.the-variants.{Accepted};
 ghost use Rattle.model.specs.Format.{mostBytes};
-ghost use Rattle.model.specs.Sizes.{Fits};
+ghost use Rattle.model.specs.Contracts.{Fits};
 ghost use Rattle.wellformed.specs.Verdict.{modelVerdict};
 ghost use Rattle.delivery.specs.Shapes.{hasLowers, hasMeans, shapeOf};
 ghost use Rattle.delivery.specs.Numbers.{lowersOf, meansOf};

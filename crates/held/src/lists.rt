@@ -17,7 +17,7 @@ ghost use Prim.Native.Nat.{ℕ, _^_, _≤_, _<_};
 ghost use lib.ListN.{getD};
 ghost use Rattle.model.specs.Format.{mostEntries};
 ghost use Rattle.model.specs.Records.{statesOf, symbolsOf};
-ghost use Rattle.model.specs.Sizes.{Fits};
+ghost use Rattle.model.specs.Contracts.{Fits};
 ghost use Rattle.delivery.specs.Contracts.{HasRecords};
 ghost use Rattle.live.specs.Contracts.{exitMarks};
 ghost use Rattle.verdict.specs.Marks.{liveMark};

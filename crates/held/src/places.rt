@@ -5,7 +5,7 @@ use model::format::MOST_ENTRIES;
 use model::sizes::Sizes;
 ghost use mathlib.Core.Path.{_≡_};
 ghost use lib.ListN.{getD};
-ghost use Rattle.model.specs.Sizes.{Narrow};
+ghost use Rattle.model.specs.Contracts.{Narrow};
 ghost use Rattle.held.specs.Places.{hasRow, hasEntry, entryValue, rowValue};
 
 // The sizes that are held, which are narrow whether they fit or not.

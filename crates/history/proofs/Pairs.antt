@@ -23,7 +23,7 @@ use Rattle.delivery.specs.Records.{kindAt, stateAt, symbolAt, exitAt, valueAt}
 use Rattle.delivery.specs.declared.shape.Shaped.the-variants.{Of}
 use Rattle.delivery.specs.Shapes.{hasLowers, hasMeans, shapeOf}
 use Rattle.delivery.specs.Numbers.{uppersOf, lowersOf, meansOf}
-use Rattle.model.specs.Accepted.{Sized}
+use Rattle.model.specs.Contracts.{Sized}
 use Rattle.verdict.specs.Marks.{liveMark}
 use Rattle.verdict.specs.Accepted.{RightFiles}
 use Rattle.certificate.specs.Margin.{marginOf}

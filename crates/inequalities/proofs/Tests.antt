@@ -25,7 +25,8 @@ use Rattle.ppda.specs.Equations.{f, meanSide}
 use Rattle.ppda.specs.Live.{isLive}
 use Rattle.model.specs.Rules.{rulesOf}
 use Rattle.delivery.specs.Records.{valueAt}
-use Rattle.delivery.specs.Numbers.{uppersOf, rowsOfBlock}
+use Rattle.delivery.specs.Numbers.{uppersOf}
+use Rattle.delivery.specs.Contracts.{rowsOfBlock}
 use Rattle.live.specs.Contracts.{bitOf}
 use Rattle.inequalities.specs.declared.sides.Side.{Side}
 use Rattle.inequalities.specs.Inequalities.{deadTest, upperTest, belowTest, lowerTest, meanTest}

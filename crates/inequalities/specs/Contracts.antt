@@ -11,7 +11,8 @@ use Rattle.ppda.specs.Live.{isLive}
 use Rattle.model.specs.declared.sizes.Sizes.{Sizes}
 use Rattle.model.specs.Rules.{rulesOf}
 use Rattle.delivery.specs.Records.{valueAt}
-use Rattle.delivery.specs.Numbers.{uppersOf, rowsOfBlock}
+use Rattle.delivery.specs.Numbers.{uppersOf}
+use Rattle.delivery.specs.Contracts.{rowsOfBlock}
 use Rattle.live.specs.Contracts.{exitMarks}
 use Rattle.inequalities.specs.declared.sides.Side.{Side}
 use Rattle.inequalities.specs.declared.sides.Side.the-variants.{Upper, StrictUpper, Lower}

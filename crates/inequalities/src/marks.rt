@@ -14,7 +14,7 @@ ghost use Rattle.outcome.specs.Tests.{first};
 ghost use Rattle.walks.specs.Lists.{each};
 ghost use Rattle.walks.specs.Order.{rowsIn, entriesIn};
 ghost use Rattle.model.specs.Format.{mostEntries};
-ghost use Rattle.model.specs.Sizes.{Fits};
+ghost use Rattle.model.specs.Contracts.{Fits};
 ghost use Rattle.delivery.specs.Contracts.{HasRecords};
 ghost use Rattle.inequalities.specs.Contracts.{deadRow, deadBlock, belowAt};
 

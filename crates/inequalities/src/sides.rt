@@ -18,7 +18,7 @@ ghost use Rattle.outcome.specs.Tests.{first};
 ghost use Rattle.ppda.specs.Units.{mostChance};
 ghost use Rattle.walks.specs.Order.{rowsIn};
 ghost use Rattle.model.specs.Format.{mostEntries};
-ghost use Rattle.model.specs.Sizes.{Fits};
+ghost use Rattle.model.specs.Contracts.{Fits};
 ghost use Rattle.delivery.specs.Contracts.{Chances};
 ghost use Rattle.rows.specs.Contracts.{Indexed};
 ghost use Rattle.inequalities.specs.Inequalities.{upperMisses, upperTest, lowerTest};

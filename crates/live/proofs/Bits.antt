@@ -15,7 +15,7 @@ use Rattle.walks.proofs.Sums.{sumTo-step}
 use Rattle.model.specs.Records.{target, weight}
 use Rattle.live.specs.Contracts.{bitOf, exitMarks}
 use Rattle.rows.specs.Contracts.{Starts}
-use Rattle.model.specs.Accepted.{Sized}
+use Rattle.model.specs.Contracts.{Sized}
 use Rattle.live.specs.Contracts.{markProduct}
 use Rattle.live.specs.Contracts.{nextMark}
 use Rattle.model.specs.Rules.{pushAt}

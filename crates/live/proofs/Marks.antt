@@ -20,7 +20,7 @@ use Rattle.walks.proofs.Lists.{getD-zeros}
 use Rattle.walks.proofs.Places.{row-at, row-below}
 use Rattle.live.specs.Contracts.{bitOf, exitMarks}
 use Rattle.live.specs.Contracts.{ExitsOf}
-use Rattle.model.specs.Accepted.{Sized}
+use Rattle.model.specs.Contracts.{Sized}
 use Rattle.live.specs.Contracts.{nextMark, NextExits, RoundTo}
 use Rattle.live.proofs.Bits.{bit-none}
 use Rattle.model.specs.Format.{mostRows}

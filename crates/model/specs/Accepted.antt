@@ -45,9 +45,3 @@ pub record ModelFile (b : List ℕ) : Type 0 where
   pub records : RecordsRight b
   pub ascending : Ascending b
   pub row : (p z : ℕ) → p < statesOf b → z < symbolsOf b → overRow (rulesOf b) p z (λ r. 1) ≡ weightUnit
-
--- An accepted model file with s states and g symbols.
-pub record Sized (b : List ℕ) (s g : ℕ) : Type 0 where
-  pub file : ModelFile b
-  pub states : s ≡ statesOf b
-  pub symbols : g ≡ symbolsOf b

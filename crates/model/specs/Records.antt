@@ -1,5 +1,5 @@
 -- The records of a model file, one after the other with no header.
-use Prim.Native.Nat.{ℕ, suc, _+_, _*_, _/_, _≤_, max}
+use Prim.Native.Nat.{ℕ, suc, _+_, _*_, _/_, max}
 use mathlib.Core.List.{List, [], _∷_}
 use lib.ListN.{length, getD}
 use Rattle.words.specs.Words.{wordAt}
@@ -9,10 +9,6 @@ use Rattle.walks.specs.Sums.{greatestTo}
 -- How many whole records the file has.
 unfoldable pub recordsOf : List ℕ → ℕ
 recordsOf b = length b / recordBytes
-
--- Record i is whole in the file.
-abbrev pub HasRecord : List ℕ → ℕ → Type 0
-HasRecord b i = recordBytes * (i + 1) ≤ length b
 
 -- Byte k of record i.
 unfoldable pub field : List ℕ → ℕ → ℕ → ℕ

@@ -1,5 +1,5 @@
 -- The rules that a model file says, for the theory of crate ppda.
-use Prim.Native.Nat.{ℕ, zero, suc, _*_, _≤_, _<_}
+use Prim.Native.Nat.{ℕ, zero, suc, _*_}
 use mathlib.Core.List.{List}
 use lib.Dec.{eqb}
 use Rattle.walks.specs.Sums.{bit, sumTo}
@@ -32,9 +32,3 @@ rowOf b g i = rowAt g (state b i) (symbol b i)
 -- The sum of the weights of row number k.
 unfoldable pub rowSum : List ℕ → ℕ → ℕ → ℕ
 rowSum b g k = sumTo (λ i. bit (eqb (rowOf b g i) k) * weight b i) (recordsOf b)
-
--- For the contracts of the code: row number k starts at record a: every record before it is of an earlier row, and every other of row k or later.
-pub record StartsAt (b : List ℕ) (g k a : ℕ) : Type 0 where
-  pub within : a ≤ recordsOf b
-  pub before : (i : ℕ) → i < a → rowOf b g i < k
-  pub after : (i : ℕ) → a ≤ i → i < recordsOf b → k ≤ rowOf b g i

@@ -11,7 +11,8 @@ use super::format::WEIGHT_BYTE;
 ghost use mathlib.Core.Path.{_≡_};
 ghost use Prim.Native.Nat.{_<_, _^_};
 ghost use Rattle.model.specs.Format.{recordBytes};
-ghost use Rattle.model.specs.Records.{HasRecord, field, state, symbol, target, pushes, top, under, weight};
+ghost use Rattle.model.specs.Records.{field, state, symbol, target, pushes, top, under, weight};
+ghost use Rattle.model.specs.Contracts.{HasRecord};
 
 // Byte k of record i.
 pub fn field(model: &[u8], i: usize, k: usize) -> usize

@@ -17,7 +17,7 @@ use Rattle.ppda.specs.Bounds.{UpperHolds, LowerHolds, MeanHolds}
 use Rattle.ppda.proofs.Margin.{margin-le-top}
 use Rattle.model.specs.Records.{statesOf, symbolsOf, recordsOf}
 use Rattle.model.specs.Rules.{rulesOf}
-use Rattle.model.specs.Sizes.{Fits}
+use Rattle.model.specs.Contracts.{Fits}
 use Rattle.model.proofs.Records.{sizes-fit}
 use Rattle.wellformed.specs.Verdict.{modelVerdict}
 use Rattle.delivery.specs.Shapes.{hasLowers, hasMeans}

@@ -13,7 +13,8 @@ use Rattle.ppda.specs.Equations.{Vector, entries, Same}
 use Rattle.walks.proofs.Places.{row-of}
 use Rattle.model.specs.Records.{recordsOf, statesOf, symbolsOf}
 use Rattle.model.specs.declared.sizes.Sizes.{Sizes}
-use Rattle.model.specs.Sizes.{sizesOf, Fits}
+use Rattle.model.specs.Sizes.{sizesOf}
+use Rattle.model.specs.Contracts.{Fits}
 use Rattle.register.specs.declared.Register.{Register}
 use Rattle.calls.specs.declared.Answer.{Answer}
 use Rattle.register.specs.Questions.{upperIn, lowerIn, marginIn, liveIn}
@@ -22,7 +23,8 @@ use Rattle.calls.specs.Answers.{answerReply}
 use Rattle.history.specs.Run.{replyOf}
 use Rattle.report.specs.declared.Printout.{Printout}
 use Rattle.report.specs.Contracts.{room, HoldsText, linesWith}
-use Rattle.gaps.specs.Gaps.{gapOf, Gaps}
+use Rattle.gaps.specs.Gaps.{gapOf}
+use Rattle.gaps.specs.Contracts.{Gaps}
 use Rattle.lines.specs.Lines.{tableLine, marginLine, chanceLine, saysLive}
 use Rattle.report.specs.Printed.{liveEntries, chanceOf, chanceAt, chanceLines, stepsLines, linesBy, acceptedLines}
 

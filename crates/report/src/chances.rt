@@ -11,7 +11,7 @@ ghost use Prim.Native.Nat.{_+_, _*_, _≤_};
 ghost use lib.ListN.{length};
 ghost use Rattle.text.specs.Contracts.{Put};
 ghost use Rattle.model.specs.Format.{mostEntries};
-ghost use Rattle.model.specs.Sizes.{Fits};
+ghost use Rattle.model.specs.Contracts.{Fits};
 ghost use Rattle.history.specs.Run.{replyOf};
 ghost use Rattle.lines.specs.Contracts.{chanceRoom, chanceText};
 ghost use Rattle.report.specs.Printed.{chanceOf};

@@ -30,7 +30,7 @@ ghost use mathlib.Core.Path.{_≡_};
 ghost use Rattle.outcome.specs.declared.Outcome.the-variants.{Accepted};
 ghost use Rattle.verdict.specs.Verdict.{verdict};
 ghost use Rattle.history.specs.Run.{replyOf};
-ghost use Rattle.model.specs.Sizes.{Fits};
+ghost use Rattle.model.specs.Contracts.{Fits};
 ghost use Rattle.report.specs.Printed.{acceptedLines, printed};
 ghost use Rattle.report.specs.Contracts.{room, HoldsText, linesWith, HoldsModel, refusalOf};
 ghost use lib.ListN.{length};

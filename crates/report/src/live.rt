@@ -4,7 +4,7 @@ use lines::says_live;
 use model::sizes::Sizes;
 use register::Register;
 ghost use mathlib.Core.Path.{_≡_};
-ghost use Rattle.model.specs.Sizes.{Fits};
+ghost use Rattle.model.specs.Contracts.{Fits};
 ghost use Rattle.history.specs.Run.{replyOf};
 ghost use Rattle.report.specs.Printed.{liveEntries};
 

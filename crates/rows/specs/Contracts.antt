@@ -4,8 +4,8 @@ use mathlib.Core.List.{List}
 use lib.ListN.{getD}
 use Rattle.walks.specs.Order.{rowsIn}
 use Rattle.model.specs.declared.sizes.Sizes.{Sizes}
-use Rattle.model.specs.Rules.{StartsAt}
-use Rattle.model.specs.Accepted.{Sized}
+use Rattle.model.specs.Contracts.{StartsAt}
+use Rattle.model.specs.Contracts.{Sized}
 
 -- The list says where each of the n rows starts, and where the last ends.
 abbrev pub Starts : List ℕ → ℕ → ℕ → List ℕ → Type 0

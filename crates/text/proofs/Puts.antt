@@ -7,7 +7,8 @@ use mathlib.Core.Path.{_≡_, refl, sym, ap, subst, _∙_}
 use lib.ListN.{length, take, set, getD, length-append, length-set}
 use lib.Seq.{take-all, paste, length-paste, take-paste, take-suc, take-suc-set}
 use Rattle.text.specs.Decimal.{decimal}
-use Rattle.text.specs.Texts.{fields, spaced}
+use Rattle.text.specs.Texts.{fields}
+use Rattle.text.specs.Contracts.{spaced}
 use Rattle.walks.specs.Lists.{each}
 use Rattle.text.specs.Contracts.{Put}
 

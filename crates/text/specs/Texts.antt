@@ -1,14 +1,8 @@
 -- Texts made of texts.
 use Prim.Native.Nat.{ℕ}
 use mathlib.Core.List.{List, [], _∷_, _++_}
-use Rattle.text.specs.Decimal.{decimal}
 
 -- The fields of a line, each after a space (32), and the line's end (10).
 abbrev pub fields : List (List ℕ) → List ℕ
 fields [] = 10 ∷ []
 fields (x ∷ xs) = 32 ∷ (x ++ fields xs)
-
--- Numbers in decimal, each after a space.
-abbrev pub spaced : List ℕ → List ℕ
-spaced [] = []
-spaced (n ∷ ns) = 32 ∷ (decimal n ++ spaced ns)

@@ -4,7 +4,7 @@ ghost use mathlib.Core.List.{[], _∷_, _++_};
 ghost use Prim.Native.Nat.{_+_, _≤_, _<_};
 ghost use lib.ListN.{length};
 ghost use Rattle.text.specs.Decimal.{decimal, signed};
-ghost use Rattle.text.specs.Texts.{spaced};
+ghost use Rattle.text.specs.Contracts.{spaced};
 ghost use Rattle.text.specs.Contracts.{Put, fieldsRoom};
 
 // Puts one byte.

@@ -16,7 +16,7 @@ use Rattle.outcome.specs.Tests.{Test, first}
 use Rattle.outcome.proofs.Tests.{Refusals, refusals-none, refusals-cons, refusals-append, refusals-each, refusals-weaken}
 use Rattle.walks.proofs.Places.{row-below, entry-below}
 use Rattle.model.specs.Records.{recordsOf, statesOf, symbolsOf}
-use Rattle.model.specs.Sizes.{Fits}
+use Rattle.model.specs.Contracts.{Fits}
 use Rattle.model.proofs.Records.{sizes-fit}
 use Rattle.wellformed.specs.Verdict.{modelVerdict, modelTests}
 use Rattle.wellformed.proofs.Accepted.{model-accepted}

@@ -21,7 +21,8 @@ use Rattle.walks.specs.Order.{rowsIn, rowAt}
 use Rattle.model.specs.Format.{recordBytes, mostBytes, mostStates, mostSymbols, mostPushes}
 use Rattle.model.specs.Records.{recordsOf, statesOf, symbolsOf, state, symbol, target, pushes, top, under, weight, key}
 use Rattle.model.specs.Rules.{rowSum}
-use Rattle.model.specs.Accepted.{RecordRight, Above, RecordsRight, Ascending, ModelFile, Sized}
+use Rattle.model.specs.Accepted.{RecordRight, Above, RecordsRight, Ascending, ModelFile}
+use Rattle.model.specs.Contracts.{Sized}
 use Rattle.model.specs.Sizes.{sizesOf}
 use Rattle.model.specs.declared.sizes.Sizes.{Sizes}
 use Rattle.model.proofs.Rows.{row-sum}

@@ -12,9 +12,11 @@ use Rattle.walks.specs.Sums.{bit, sumTo}
 use Rattle.walks.proofs.Sums.{sumTo-none, sumTo-past, sumTo-le, sumTo-step}
 use Rattle.ppda.specs.Units.{weightUnit}
 use Rattle.model.specs.declared.sizes.Sizes.{Sizes}
-use Rattle.model.specs.Sizes.{sizesOf, Narrow}
+use Rattle.model.specs.Sizes.{sizesOf}
+use Rattle.model.specs.Contracts.{Narrow}
 use Rattle.model.specs.Records.{recordsOf, symbolsOf, state, symbol, weight}
-use Rattle.model.specs.Rules.{rowOf, rowSum, StartsAt}
+use Rattle.model.specs.Rules.{rowOf, rowSum}
+use Rattle.model.specs.Contracts.{StartsAt}
 use Rattle.model.specs.Accepted.{RecordsRight, Ascending}
 use Rattle.model.proofs.Records.{sizes-fit, fits-narrow, state-below, symbol-below}
 use Rattle.model.proofs.Rows.{rows-ascend}

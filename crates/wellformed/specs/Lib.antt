@@ -1,2 +1,3 @@
--- The tests 10 to 15 of a model file in their order (document 01, "Reasons found in the files").
+-- The tests 10 to 15 of a model file in their order (document 01, "Reasons found in the files"). `Contracts` serves the contracts of the code alone.
 pub mod Verdict
+pub mod Contracts

@@ -11,7 +11,7 @@ use Rattle.walks.specs.Lists.{each}
 use Rattle.ppda.specs.Units.{weightUnit}
 use Rattle.walks.specs.Order.{rowsIn}
 use Rattle.model.specs.Format.{recordBytes, mostBytes, mostStates, mostSymbols, mostPushes}
-use Rattle.model.specs.Records.{recordsOf, statesOf, symbolsOf, state, symbol, target, pushes, top, under, weight, field, key}
+use Rattle.model.specs.Records.{recordsOf, statesOf, symbolsOf, state, symbol, target, pushes, top, under, weight, key}
 use Rattle.model.specs.Rules.{rowSum}
 
 -- A file of n bytes has whole records, at least one and at most 1,024.
@@ -39,10 +39,6 @@ abbrev pub above : List ℕ → List ℕ → Bool
 above [] ys = false
 above (a ∷ xs) [] = false
 above (a ∷ xs) (b ∷ ys) = ltb b a || (eqb a b && above xs ys)
-
--- One step of this order, at byte k of records i + 1 and i: greater there, or the same and the rest lies above.
-abbrev pub laterAt : List ℕ → ℕ → ℕ → Bool → Bool
-laterAt b i k rest = ltb (field b i k) (field b (i + 1) k) || (eqb (field b (i + 1) k) (field b i k) && rest)
 
 -- Record i lies above the record before it, if there is one.
 unfoldable pub ascends : List ℕ → ℕ → Bool

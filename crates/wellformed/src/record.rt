@@ -25,8 +25,10 @@ ghost use mathlib.Core.Path.{_≡_};
 ghost use Prim.Native.Nat.{_+_, _<_};
 ghost use Rattle.outcome.specs.Tests.{first};
 ghost use Rattle.model.specs.Format.{recordBytes};
-ghost use Rattle.model.specs.Records.{HasRecord, key};
-ghost use Rattle.wellformed.specs.Verdict.{rangeAt, unusedAt, weightAt, above, laterAt, ascends, recordTests};
+ghost use Rattle.model.specs.Records.{key};
+ghost use Rattle.model.specs.Contracts.{HasRecord};
+ghost use Rattle.wellformed.specs.Verdict.{rangeAt, unusedAt, weightAt, above, ascends, recordTests};
+ghost use Rattle.wellformed.specs.Contracts.{laterAt};
 
 // Whether the states, the symbols and the count of record i are in range.
 fn in_range(model: &[u8], i: usize) -> bool

@@ -6,7 +6,8 @@ use mathlib.Core.List.{List, [], _∷_, _++_, append-assoc}
 use mathlib.Core.Path.{_≡_, refl, sym, ap, _∙_}
 use lib.ListN.{length, getD, take, drop, set}
 use lib.Seq.{length-take-le, drop-cons, getD-append-add, take-add, drop-drop, sets-eq}
-use Rattle.words.specs.Words.{wordAt, fourBytes, written, Bytes}
+use Rattle.words.specs.Words.{wordAt, fourBytes, Bytes}
+use Rattle.words.specs.Contracts.{written}
 
 -- ---- lists of bytes
 

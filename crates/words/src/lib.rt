@@ -3,7 +3,8 @@
 ghost use mathlib.Core.Path.{_≡_};
 ghost use Prim.Native.Nat.{_+_, _<_, _^_};
 ghost use lib.ListN.{length, getD};
-ghost use Rattle.words.specs.Words.{wordAt, fourBytes, written};
+ghost use Rattle.words.specs.Words.{wordAt, fourBytes};
+ghost use Rattle.words.specs.Contracts.{written};
 
 // A byte as a wider number.
 fn wide(b: u8) -> u64

@@ -3,7 +3,7 @@ use mathlib.Core.Path.{_≡_, sym, _∙_}
 use denote.Ref.{now}
 use borrow.Author.Needs.{needs}
 use Rattle.outcome.specs.declared.Outcome.the-variants.{Accepted}
-use Rattle.model.specs.Accepted.{Sized}
+use Rattle.model.specs.Contracts.{Sized}
 use Rattle.model.proofs.Accepted.{sized-fits}
 use Rattle.verdict.specs.Verdict.{verdict}
 use Rattle.certificate.proofs.Steps.{sized-by-verdict, none-if-refused, none-if-unknown, none-without-lowers, shown-with-lowers}

@@ -3,7 +3,7 @@ use mathlib.Core.Path.{refl, sym}
 use lib.Seq.{length-take-le}
 use denote.Ref.{now}
 use borrow.Author.Needs.{needs}
-use Rattle.model.specs.Accepted.{Sized}
+use Rattle.model.specs.Contracts.{Sized}
 use Rattle.model.proofs.Accepted.{sized-fits}
 use Rattle.certificate.proofs.Steps.{sized-by-verdict}
 use Rattle.gaps.proofs.Differences.{block-fits, block-stands, gaps-of-block}

@@ -8,7 +8,7 @@ use Rattle.model.specs.Records.{recordsOf}
 use Rattle.model.specs.Rules.{rowOf}
 use Rattle.model.specs.Format.{mostRows}
 use Rattle.model.proofs.Accepted.{sized-fits}
-use Rattle.model.specs.Rules.{StartsAt}
+use Rattle.model.specs.Contracts.{StartsAt}
 use Rattle.rows.proofs.Ranges.{starts-more}
 use Rattle.rows.proofs.find_starts.Statement.{statement}
 use Rattle.rows.proofs.find_starts.Tie as tie

@@ -2,7 +2,7 @@
 use mathlib.Core.Path.{refl, sym, _∙_}
 use denote.Ref.{now}
 use borrow.Author.Needs.{needs}
-use Rattle.model.specs.Accepted.{Sized}
+use Rattle.model.specs.Contracts.{Sized}
 use Rattle.model.proofs.Accepted.{sized-fits}
 use Rattle.wellformed.proofs.Accepted.{sized-by}
 use Rattle.certificate.proofs.Steps.{delivery-decides, no-shape}

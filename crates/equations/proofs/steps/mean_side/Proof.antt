@@ -4,7 +4,8 @@ use Prim.Native.Nat.{_+_, _*_, _/_, _%_, _^_, _≤_, _-_}
 use native.Mathlib.Omega.{arith}
 use Rattle.ppda.specs.Units.{chanceUnit}
 use Rattle.ppda.specs.Equations.{stepsThrough, meanSide}
-use Rattle.delivery.specs.Numbers.{uppersOf, rowsOfBlock}
+use Rattle.delivery.specs.Numbers.{uppersOf}
+use Rattle.delivery.specs.Contracts.{rowsOfBlock}
 use Rattle.model.proofs.Accepted.{sized-fits, has-record}
 use Rattle.rows.proofs.Ranges.{start-most}
 use Rattle.rows.proofs.Sums.{RowSum, row-begin, row-record, row-more, row-end, row-within}

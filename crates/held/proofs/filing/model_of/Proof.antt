@@ -1,7 +1,7 @@
 -- `model_of`: an accepted file fits, its states and symbols are few, and the live marks found are the definition's.
 use native.Mathlib.Omega.{arith}
 use borrow.Author.Needs.{needs}
-use Rattle.model.specs.Sizes.{Fits}
+use Rattle.model.specs.Contracts.{Fits}
 use Rattle.model.proofs.Accepted.{sized-fits}
 use Rattle.wellformed.proofs.Accepted.{sized-by}
 use Rattle.held.proofs.Becomes.{model-fits, model-is}

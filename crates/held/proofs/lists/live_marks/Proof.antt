@@ -1,7 +1,7 @@
 -- `live_marks`: zeros for a refused model, and the marks by rounds for an accepted one.
 use mathlib.Core.Path.{refl, sym, _∙_}
 use borrow.Author.Needs.{needs}
-use Rattle.model.specs.Accepted.{Sized}
+use Rattle.model.specs.Contracts.{Sized}
 use Rattle.model.specs.Format.{mostEntries}
 use Rattle.model.proofs.Accepted.{sized-fits}
 use Rattle.wellformed.proofs.Accepted.{sized-by}

@@ -10,7 +10,7 @@ use borrow.Author.Needs.{needs}
 use Rattle.outcome.specs.declared.Outcome.the-variants.{Accepted}
 use Rattle.outcome.specs.Tests.{isRefused}
 use Rattle.outcome.proofs.Tests.{by-cases, not-refused}
-use Rattle.model.specs.Accepted.{Sized}
+use Rattle.model.specs.Contracts.{Sized}
 use Rattle.verdict.specs.Verdict.{verdict}
 use Rattle.model.specs.Format.{mostBytes}
 use Rattle.model.proofs.Accepted.{sized-fits}

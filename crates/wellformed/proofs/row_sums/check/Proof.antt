@@ -12,7 +12,8 @@ use Rattle.outcome.specs.declared.Outcome.the-variants.{Accepted}
 use Rattle.walks.specs.Order.{rowsIn}
 use Rattle.model.specs.declared.sizes.Sizes.{Sizes}
 use Rattle.model.specs.Format.{mostRows}
-use Rattle.model.specs.Rules.{rowSum, StartsAt}
+use Rattle.model.specs.Rules.{rowSum}
+use Rattle.model.specs.Contracts.{StartsAt}
 use Rattle.model.specs.Records.{statesOf, symbolsOf}
 use Rattle.wellformed.specs.Verdict.{rowTests, rowsTests}
 use Rattle.wellformed.proofs.Sums.{starts-first}
