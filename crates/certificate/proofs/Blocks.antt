@@ -23,8 +23,7 @@ use Rattle.model.specs.Rules.{rulesOf}
 use Rattle.delivery.specs.Records.{valueAt}
 use Rattle.walks.specs.Order.{entriesIn, entryAt, rowAt, eachEntry, eachRow}
 use Rattle.delivery.specs.Numbers.{uppersOf}
-use Rattle.delivery.specs.Contracts.{rowsOfBlock}
-use Rattle.delivery.specs.Contracts.{Within}
+use Rattle.delivery.specs.Contracts.{rowsOfBlock, Within}
 use Rattle.walks.proofs.Orders.{entries-by-number}
 use Rattle.live.specs.Contracts.{exitMarks}
 use Rattle.walks.proofs.Places.{entry-below}

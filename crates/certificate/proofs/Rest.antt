@@ -22,9 +22,8 @@ use Rattle.delivery.specs.Records.{valueAt}
 use Rattle.delivery.specs.Shapes.{hasLowers, hasMeans, meansFrom, recordsIn, shapeOf}
 use Rattle.walks.specs.Order.{entriesIn, rowsIn, entryAt, rowAt, AtEntries, AtRows}
 use Rattle.delivery.specs.Numbers.{uppersOf, lowersOf, meansOf}
-use Rattle.delivery.specs.Contracts.{rowsOfBlock}
+use Rattle.delivery.specs.Contracts.{rowsOfBlock, Within}
 use Rattle.layout.specs.Layout.{layoutTests}
-use Rattle.delivery.specs.Contracts.{Within}
 use Rattle.delivery.proofs.Shapes.{shape-long, uppers-fit, lowers-fit}
 use Rattle.delivery.proofs.Values.{rest-value}
 use Rattle.inequalities.specs.Inequalities.{deadTests}

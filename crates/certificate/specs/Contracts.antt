@@ -18,9 +18,8 @@ use Rattle.delivery.specs.declared.shape.Shaped.the-variants.{Of}
 use Rattle.delivery.specs.Format.{recordBytes}
 use Rattle.delivery.specs.Shapes.{hasLowers, hasMeans, meansFrom, shapeOf}
 use Rattle.delivery.specs.Numbers.{uppersOf}
-use Rattle.delivery.specs.Contracts.{rowsOfBlock}
+use Rattle.delivery.specs.Contracts.{rowsOfBlock, Within, Chances}
 use Rattle.layout.specs.Layout.{onlyIf, layoutTests}
-use Rattle.delivery.specs.Contracts.{Within, Chances}
 use Rattle.rows.specs.Contracts.{Indexed}
 use Rattle.live.specs.Contracts.{exitMarks}
 use Rattle.inequalities.specs.Inequalities.{deadTests, upperTests, belowTests, lowerTests, meanTests}

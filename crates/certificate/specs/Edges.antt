@@ -180,6 +180,8 @@ failTwice =
     ∷ input (oneRule 65535) (deliveryRecord 85 0 0 0 1048576) (refusedAt 15 0)
     ∷ input (oneRule 65536) (deliveryRecord 76 0 0 0 2097153) (refusedAt 21 0)
     ∷ input (oneRule 65536) (deliveryRecord 85 0 0 0 2097153 ++ deliveryRecord 76 1 0 0 0) (refusedAt 22 0)
+    ∷ input zToZ (deliveryRecord 85 0 0 0 1 ++ deliveryRecord 76 0 0 0 2097153) (refusedAt 22 1)
+    ∷ input wFile (wOther 524288 1 524288 0 1048576 255) (refusedAt 22 8)
     ∷ input wFile (wOther 524288 1 524288 1 1048576 512) (refusedAt 23 2)
     ∷ input wFile (wOther 466033 0 524288 1 1048576 512) (refusedAt 23 6)
     ∷ input wFile (wOther 466033 0 655361 0 1048576 512) (refused 24 1 (negsuc 30064771071))

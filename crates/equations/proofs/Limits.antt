@@ -12,8 +12,7 @@ use Rattle.ppda.specs.Rules.{Push, nothing, one, two}
 use Rattle.ppda.specs.Equations.{through, stepsThrough}
 use Rattle.model.specs.Format.{mostStates}
 use Rattle.delivery.specs.Numbers.{uppersOf}
-use Rattle.delivery.specs.Contracts.{rowsOfBlock}
-use Rattle.delivery.specs.Contracts.{Within}
+use Rattle.delivery.specs.Contracts.{rowsOfBlock, Within}
 use Rattle.equations.specs.Contracts.{product, stepsProduct}
 use Rattle.rows.proofs.Sums.{sum-most}
 

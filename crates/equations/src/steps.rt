@@ -18,10 +18,8 @@ ghost use Prim.Native.Nat.{_+_, _^_, _≤_, _<_};
 ghost use Rattle.walks.specs.Sums.{sumTo};
 ghost use Rattle.walks.specs.Order.{rowsIn};
 ghost use Rattle.model.specs.Records.{recordsOf};
-ghost use Rattle.model.specs.Contracts.{Sized};
-ghost use Rattle.model.specs.Contracts.{Fits};
-ghost use Rattle.delivery.specs.Contracts.{rowsOfBlock};
-ghost use Rattle.delivery.specs.Contracts.{HasRecords, Chances, MeanSteps};
+ghost use Rattle.model.specs.Contracts.{Sized, Fits};
+ghost use Rattle.delivery.specs.Contracts.{rowsOfBlock, HasRecords, Chances, MeanSteps};
 ghost use Rattle.rows.specs.Contracts.{Indexed};
 ghost use Rattle.equations.specs.Contracts.{stepsProduct, stepsAdded, meanSideOf};
 

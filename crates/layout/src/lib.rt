@@ -17,9 +17,8 @@ ghost use Rattle.outcome.specs.Tests.{first};
 ghost use Rattle.walks.specs.Lists.{each};
 ghost use Rattle.walks.specs.Order.{rowsIn};
 ghost use Rattle.model.specs.Contracts.{Fits};
-ghost use Rattle.delivery.specs.Contracts.{HasRecord};
+ghost use Rattle.delivery.specs.Contracts.{HasRecord, HasBlock, ShapedFile};
 ghost use Rattle.delivery.specs.Shapes.{hasLowers};
-ghost use Rattle.delivery.specs.Contracts.{HasBlock, ShapedFile};
 ghost use Rattle.layout.specs.Layout.{onlyIf, recordTests, lowerRecords, layoutTests};
 ghost use Rattle.layout.specs.Contracts.{recordOfRow, rowOfState, stateOfBlock};
 

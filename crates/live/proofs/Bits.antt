@@ -13,11 +13,9 @@ use Rattle.ppda.specs.Rules.{Push, nothing, one, two}
 use Rattle.ppda.specs.Equations.{through, f}
 use Rattle.walks.proofs.Sums.{sumTo-step}
 use Rattle.model.specs.Records.{target, weight}
-use Rattle.live.specs.Contracts.{bitOf, exitMarks}
+use Rattle.live.specs.Contracts.{bitOf, exitMarks, markProduct, nextMark}
 use Rattle.rows.specs.Contracts.{Starts}
 use Rattle.model.specs.Contracts.{Sized}
-use Rattle.live.specs.Contracts.{markProduct}
-use Rattle.live.specs.Contracts.{nextMark}
 use Rattle.model.specs.Rules.{pushAt}
 use Rattle.walks.proofs.Sums.{sumTo-none}
 use Rattle.rows.proofs.Sums.{RowSum, row-begin, row-record, row-more, row-end}

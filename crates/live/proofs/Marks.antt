@@ -18,10 +18,8 @@ use Rattle.ppda.specs.Live.{mark, alive}
 use Rattle.model.specs.Rules.{rulesOf}
 use Rattle.walks.proofs.Lists.{getD-zeros}
 use Rattle.walks.proofs.Places.{row-at, row-below}
-use Rattle.live.specs.Contracts.{bitOf, exitMarks}
-use Rattle.live.specs.Contracts.{ExitsOf}
+use Rattle.live.specs.Contracts.{bitOf, exitMarks, ExitsOf, nextMark, NextExits, RoundTo}
 use Rattle.model.specs.Contracts.{Sized}
-use Rattle.live.specs.Contracts.{nextMark, NextExits, RoundTo}
 use Rattle.live.proofs.Bits.{bit-none}
 use Rattle.model.specs.Format.{mostRows}
 use Rattle.model.proofs.Accepted.{sized-model}

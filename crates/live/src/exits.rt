@@ -15,11 +15,9 @@ ghost use Rattle.walks.specs.Order.{rowsIn};
 ghost use Rattle.ppda.specs.Live.{isLive};
 ghost use Rattle.model.specs.Format.{mostStates, mostRows};
 ghost use Rattle.model.specs.Records.{recordsOf};
-ghost use Rattle.model.specs.Contracts.{Sized};
-ghost use Rattle.model.specs.Contracts.{Fits};
+ghost use Rattle.model.specs.Contracts.{Sized, Fits};
 ghost use Rattle.rows.specs.Contracts.{Indexed};
-ghost use Rattle.live.specs.Contracts.{bitOf};
-ghost use Rattle.live.specs.Contracts.{markProduct, throughMarks, NextExitsOf};
+ghost use Rattle.live.specs.Contracts.{bitOf, markProduct, throughMarks, NextExitsOf};
 
 // The exit q alone.
 fn exit(q: usize) -> u8

@@ -13,8 +13,7 @@ ghost use Rattle.walks.specs.Order.{rowsIn};
 ghost use Rattle.model.specs.Format.{mostRows};
 ghost use Rattle.model.specs.Rules.{rulesOf};
 ghost use Rattle.rows.specs.Contracts.{Indexed};
-ghost use Rattle.live.specs.Contracts.{ExitsOf};
-ghost use Rattle.live.specs.Contracts.{RoundTo};
+ghost use Rattle.live.specs.Contracts.{ExitsOf, RoundTo};
 
 // One round: every row by the marks before.
 fn round(

@@ -5,11 +5,9 @@ use mathlib.Core.List.{List}
 use Rattle.walks.proofs.Lists.{in-listTo}
 use Rattle.ppda.specs.Rules.{pushed, Below, IsRule, IsModel}
 use Rattle.model.specs.Records.{recordsOf, statesOf, symbolsOf, state, symbol, target, pushes, top, under}
-use Rattle.model.specs.Contracts.{HasRecord}
+use Rattle.model.specs.Contracts.{HasRecord, Sized, Fits}
 use Rattle.model.specs.Rules.{pushOf, ruleOf, rulesOf}
 use Rattle.model.specs.Accepted.{ModelFile}
-use Rattle.model.specs.Contracts.{Sized}
-use Rattle.model.specs.Contracts.{Fits}
 use Rattle.model.proofs.Records.{sizes-fit, state-below, target-below, symbol-below, top-below, under-below}
 
 -- ---- a model file is a model

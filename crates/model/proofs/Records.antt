@@ -14,8 +14,7 @@ use Rattle.model.specs.Format.{mostStates, mostSymbols, mostRows}
 use Rattle.model.specs.Records.{recordsOf, state, symbol, target, top, under, weight, stateNamed, symbolNamed, statesOf, symbolsOf}
 use Rattle.model.specs.Rules.{ruleOf, rulesOf}
 use Rattle.model.specs.Accepted.{RecordRight}
-use Rattle.model.specs.Contracts.{Narrow}
-use Rattle.model.specs.Contracts.{Fits}
+use Rattle.model.specs.Contracts.{Narrow, Fits}
 
 -- ---- states and symbols
 

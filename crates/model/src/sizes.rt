@@ -11,10 +11,8 @@ ghost use Prim.Native.Nat.{_≤_, _<_, max};
 ghost use Rattle.walks.specs.Order.{rowsIn, entriesIn, rowAt, entryIn, entryAt};
 ghost use Rattle.model.specs.Format.{mostRows, mostEntries};
 ghost use Rattle.model.specs.Records.{recordsOf, stateNamed, symbolNamed, statesOf, symbolsOf};
-ghost use Rattle.model.specs.Contracts.{HasRecord};
+ghost use Rattle.model.specs.Contracts.{HasRecord, Narrow, Fits};
 ghost use Rattle.model.specs.Sizes.{sizesOf};
-ghost use Rattle.model.specs.Contracts.{Narrow};
-ghost use Rattle.model.specs.Contracts.{Fits};
 
 // The numbers of states and symbols. Rows (p, Z) and entries (p, Z, q) are numbered in the order of files.
 pub struct Sizes {

@@ -13,9 +13,8 @@ use borrow.Author.Count.{below-more}
 use Rattle.model.specs.Format.{mostRecords}
 use Rattle.model.specs.Records.{recordsOf}
 use Rattle.model.specs.Rules.{rowOf}
-use Rattle.model.specs.Contracts.{Sized}
+use Rattle.model.specs.Contracts.{Sized, StartsAt}
 use Rattle.model.proofs.Rows.{rows-ascend}
-use Rattle.model.specs.Contracts.{StartsAt}
 use Rattle.rows.specs.Contracts.{Starts}
 
 -- One number more of a list is as it should be.

@@ -20,9 +20,8 @@ use Rattle.model.specs.Rules.{pushOf, pushAt, ruleOf, rulesOf, rowOf}
 use Rattle.model.proofs.Records.{over-row}
 use Rattle.model.proofs.Rows.{row-fits}
 use Rattle.model.proofs.Accepted.{sized-fits}
-use Rattle.model.specs.Contracts.{StartsAt}
+use Rattle.model.specs.Contracts.{StartsAt, Sized}
 use Rattle.rows.specs.Contracts.{Starts}
-use Rattle.model.specs.Contracts.{Sized}
 use Rattle.rows.proofs.Ranges.{starts-ascend}
 
 -- ---- sums by their last term

@@ -4,8 +4,7 @@ use mathlib.Core.List.{List}
 use lib.ListN.{getD}
 use Rattle.walks.specs.Order.{rowsIn}
 use Rattle.model.specs.declared.sizes.Sizes.{Sizes}
-use Rattle.model.specs.Contracts.{StartsAt}
-use Rattle.model.specs.Contracts.{Sized}
+use Rattle.model.specs.Contracts.{StartsAt, Sized}
 
 -- The list says where each of the n rows starts, and where the last ends.
 abbrev pub Starts : List ℕ → ℕ → ℕ → List ℕ → Type 0

@@ -11,8 +11,7 @@ ghost use lib.ListN.{length};
 ghost use Rattle.model.specs.Format.{mostRows};
 ghost use Rattle.model.specs.Records.{recordsOf};
 ghost use Rattle.model.specs.Rules.{rowOf};
-ghost use Rattle.model.specs.Contracts.{Sized};
-ghost use Rattle.model.specs.Contracts.{StartsAt};
+ghost use Rattle.model.specs.Contracts.{Sized, StartsAt};
 ghost use Rattle.rows.specs.Contracts.{Indexed};
 
 // How many numbers say where the rows start and where the last ends.

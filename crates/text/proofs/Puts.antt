@@ -8,9 +8,8 @@ use lib.ListN.{length, take, set, getD, length-append, length-set}
 use lib.Seq.{take-all, paste, length-paste, take-paste, take-suc, take-suc-set}
 use Rattle.text.specs.Decimal.{decimal}
 use Rattle.text.specs.Texts.{fields}
-use Rattle.text.specs.Contracts.{spaced}
+use Rattle.text.specs.Contracts.{spaced, Put}
 use Rattle.walks.specs.Lists.{each}
-use Rattle.text.specs.Contracts.{Put}
 
 -- Nothing.
 pub put-none : (a : List ℕ) (at : ℕ) → Put a a at at []

@@ -13,10 +13,9 @@ use Rattle.walks.proofs.Sums.{sumTo-none, sumTo-past, sumTo-le, sumTo-step}
 use Rattle.ppda.specs.Units.{weightUnit}
 use Rattle.model.specs.declared.sizes.Sizes.{Sizes}
 use Rattle.model.specs.Sizes.{sizesOf}
-use Rattle.model.specs.Contracts.{Narrow}
+use Rattle.model.specs.Contracts.{Narrow, StartsAt}
 use Rattle.model.specs.Records.{recordsOf, symbolsOf, state, symbol, weight}
 use Rattle.model.specs.Rules.{rowOf, rowSum}
-use Rattle.model.specs.Contracts.{StartsAt}
 use Rattle.model.specs.Accepted.{RecordsRight, Ascending}
 use Rattle.model.proofs.Records.{sizes-fit, fits-narrow, state-below, symbol-below}
 use Rattle.model.proofs.Rows.{rows-ascend}
