@@ -163,6 +163,11 @@ module _ (m : List Rule) (s g : ℕ) (u l : Vector) (model : IsModel s g m) (upp
   by-margin-shown zero e p z q hp hz hq k = omega (arith, mul-le-mul-right (65536 ^ stepsOf k * (2 ^ 20) ^ k) (lowers p z q hp hz hq .below))
   by-margin-shown (suc a) e p z q hp hz hq k = rw e at (by-kept p z q hp hz hq k)
 
+  -- Where the margin is 0, m is 1/2^57.
+  pub lower-without-margin : margin m s g u ≡ 0 → AtEntries s g (λ p z q. LowerBy m p z q (l p z q) (u p z q) (2 ^ 57 - 1) (2 ^ 57))
+  unfolding kept
+  lower-without-margin e p z q hp hz hq k = rw e at (by-kept p z q hp hz hq k)
+
   pub lower-holds : LowersHold m s g u l (margin m s g u)
   lower-holds p z q hp hz hq =
       record { as-shown = by-margin-shown (margin m s g u) refl p z q hp hz hq; above-zero = by-kept p z q hp hz hq }
