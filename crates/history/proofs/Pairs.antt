@@ -140,7 +140,7 @@ module _ (b : List ℕ) (y : Option (List ℕ)) (right : Right (some b) y) where
   unfolding liveIn modelHeld
   live-reply p z q =
       let is = model-right b y right in
-      rw (model-of-pair b y, held-length b is)
+      simp (model-of-pair b y, held-length b is)
       (entry-reply (statesOf b) (symbolsOf b) _ true (liveMark b) (λ has. listed-same b is (liveMark b)) p z q)
 
 -- ---- a held delivery

@@ -1,32 +1,49 @@
 -- The five questions, answered by a register (document 01, "Filing and questions" and "Reasons found in the register").
 use Prim.Native.Nat.{ℕ}
-use mathlib.Core.Bool.{true}
+use mathlib.Core.Bool.{Bool}
 use Rattle.calls.specs.declared.Answer.{Answer}
-use Rattle.calls.specs.Answers.{answered}
 use Rattle.register.specs.declared.Register.{Register}
-use Rattle.held.specs.Held.{holdsModel, isHeld, lowersStand, meansStand}
-use Rattle.held.specs.Places.{hasRow, hasEntry, rowValue, entryValue}
+use Rattle.held.specs.Held.{holdsModel}
+use Rattle.questions.specs.declared.Shown.{Shown}
+use Rattle.questions.specs.declared.View.{View}
+use Rattle.questions.specs.Questions.{upperOf, lowerOf, meanOf, marginOf, liveOf}
 
--- An entry's upper, its lower, a row's mean steps, the margin, and an entry's live mark, which needs a model only.
+-- Whether a model is held: where one is, filing a model is refused by 41, and where none is, all else is by 40.
+unfoldable pub hasModel : Register → Bool
+hasModel r = holdsModel (r .model .length)
+
+-- What is held but for the lists of numbers.
+abbrev pub shownOf : Register → Shown
+shownOf r = record {
+  length = r .model .length;
+  states = r .model .states;
+  symbols = r .model .symbols;
+  delivery = r .delivery;
+  margin = r .numbers .margin;
+}
+
+-- All that questions are answered from.
+abbrev pub viewOf : Register → View
+viewOf r = record {
+  shown = shownOf r;
+  marks = r .model .live;
+  uppers = r .numbers .uppers;
+  lowers = r .numbers .lowers;
+  means = r .numbers .means;
+}
+
+-- An entry's upper, its lower, a row's mean steps, the margin, and an entry's live mark.
 unfoldable pub upperIn : Register → ℕ → ℕ → ℕ → Answer
-upperIn r p z q =
-    answered (holdsModel (r .model .length)) (isHeld (r .delivery)) (hasEntry (r .model .states) (r .model .symbols) p z q) true
-    (entryValue (r .model .states) (r .model .symbols) (r .numbers .uppers) p z q)
+upperIn r p z q = upperOf (shownOf r) (r .numbers .uppers) p z q
 
 unfoldable pub lowerIn : Register → ℕ → ℕ → ℕ → Answer
-lowerIn r p z q =
-    answered (holdsModel (r .model .length)) (isHeld (r .delivery)) (hasEntry (r .model .states) (r .model .symbols) p z q)
-    (lowersStand (r .delivery)) (entryValue (r .model .states) (r .model .symbols) (r .numbers .lowers) p z q)
+lowerIn r p z q = lowerOf (shownOf r) (r .numbers .lowers) p z q
 
 unfoldable pub meanIn : Register → ℕ → ℕ → Answer
-meanIn r p z =
-    answered (holdsModel (r .model .length)) (isHeld (r .delivery)) (hasRow (r .model .states) (r .model .symbols) p z)
-    (meansStand (r .delivery)) (rowValue (r .model .states) (r .model .symbols) (r .numbers .means) p z)
+meanIn r p z = meanOf (shownOf r) (r .numbers .means) p z
 
 unfoldable pub marginIn : Register → Answer
-marginIn r = answered (holdsModel (r .model .length)) (isHeld (r .delivery)) true (lowersStand (r .delivery)) (r .numbers .margin)
+marginIn r = marginOf (shownOf r)
 
 unfoldable pub liveIn : Register → ℕ → ℕ → ℕ → Answer
-liveIn r p z q =
-    answered (holdsModel (r .model .length)) true (hasEntry (r .model .states) (r .model .symbols) p z q) true
-    (entryValue (r .model .states) (r .model .symbols) (r .model .live) p z q)
+liveIn r p z q = liveOf (shownOf r) (r .model .live) p z q

@@ -2,7 +2,6 @@
 
 use calls::Answer;
 use calls::Mark;
-use calls::answered;
 use filing::delivery_outcome;
 use filing::mark_by;
 use filing::model_outcome;
@@ -14,21 +13,16 @@ use held::filing::numbers_of;
 use held::filing::shape_for;
 use held::holds_model;
 use held::is_held;
-use held::lowers_stand;
-use held::means_stand;
 use held::no_model;
 use held::no_numbers;
-use held::places::entry_value;
-use held::places::has_entry;
-use held::places::has_row;
-use held::places::row_value;
-use held::places::sizes_held;
 use model::sizes::sizes_of;
 use outcome::Outcome;
 use outcome::is_refused;
+use questions::Shown;
+use questions::View;
 ghost use mathlib.Core.Path.{_≡_};
 ghost use Rattle.register.specs.Filing.{cleared, turnedDown, fileModel, turnedAway, fileDelivery};
-ghost use Rattle.register.specs.Questions.{upperIn, lowerIn, meanIn, marginIn, liveIn};
+ghost use Rattle.register.specs.Questions.{hasModel, shownOf, viewOf, upperIn, lowerIn, meanIn, marginIn, liveIn};
 
 // At most one model and one delivery: the held delivery's shape, and its numbers beside it.
 pub struct Register {
@@ -135,90 +129,86 @@ impl Register {
         }
     }
 
+    // Whether a model is held, on which the register's own reasons for a filing go.
+    pub fn has_model(self) -> bool
+        ensures { λ r. ⌜ r ≡ hasModel self ⌝ }
+    {
+        let length = self.model.length;
+        holds_model(length)
+    }
+
+    // What is held but for the lists of numbers.
+    fn shown(self) -> Shown
+        ensures { λ r. ⌜ r ≡ shownOf self ⌝ }
+    {
+        let length = self.model.length;
+        let states = self.model.states;
+        let symbols = self.model.symbols;
+        let delivery = self.delivery;
+        let margin = self.numbers.margin;
+        Shown {
+            length,
+            states,
+            symbols,
+            delivery,
+            margin,
+        }
+    }
+
     // The upper of an entry.
     pub fn upper(self, p: usize, z: usize, q: usize) -> Answer
         ensures { λ r. ⌜ r ≡ upperIn self p z q ⌝ }
     {
-        let n = sizes_held(self.model.states, self.model.symbols);
         let uppers = self.numbers.uppers;
-        let value = entry_value(&uppers, n, p, z, q);
-        let length = self.model.length;
-        let delivery = self.delivery;
-        answered(
-            holds_model(length),
-            is_held(delivery),
-            has_entry(n, p, z, q),
-            true,
-            value,
-        )
+        questions::upper(self.shown(), &uppers, p, z, q)
     }
 
     // The lower of an entry.
     pub fn lower(self, p: usize, z: usize, q: usize) -> Answer
         ensures { λ r. ⌜ r ≡ lowerIn self p z q ⌝ }
     {
-        let n = sizes_held(self.model.states, self.model.symbols);
         let lowers = self.numbers.lowers;
-        let value = entry_value(&lowers, n, p, z, q);
-        let length = self.model.length;
-        let delivery = self.delivery;
-        answered(
-            holds_model(length),
-            is_held(delivery),
-            has_entry(n, p, z, q),
-            lowers_stand(delivery),
-            value,
-        )
+        questions::lower(self.shown(), &lowers, p, z, q)
     }
 
     // The mean steps of a row.
     pub fn mean_steps(self, p: usize, z: usize) -> Answer
         ensures { λ r. ⌜ r ≡ meanIn self p z ⌝ }
     {
-        let n = sizes_held(self.model.states, self.model.symbols);
         let means = self.numbers.means;
-        let value = row_value(&means, n, p, z);
-        let length = self.model.length;
-        let delivery = self.delivery;
-        answered(
-            holds_model(length),
-            is_held(delivery),
-            has_row(n, p, z),
-            means_stand(delivery),
-            value,
-        )
+        questions::mean_steps(self.shown(), &means, p, z)
     }
 
     // The margin.
     pub fn margin(self) -> Answer
         ensures { λ r. ⌜ r ≡ marginIn self ⌝ }
     {
-        let length = self.model.length;
-        let delivery = self.delivery;
-        let value = self.numbers.margin;
-        answered(
-            holds_model(length),
-            is_held(delivery),
-            true,
-            lowers_stand(delivery),
-            value,
-        )
+        questions::margin(self.shown())
     }
 
     // The live mark of an entry, which needs a model only.
     pub fn live(self, p: usize, z: usize, q: usize) -> Answer
         ensures { λ r. ⌜ r ≡ liveIn self p z q ⌝ }
     {
-        let n = sizes_held(self.model.states, self.model.symbols);
         let marks = self.model.live;
-        let value = entry_value(&marks, n, p, z, q);
-        let length = self.model.length;
-        answered(
-            holds_model(length),
-            true,
-            has_entry(n, p, z, q),
-            true,
-            value,
-        )
+        questions::live(self.shown(), &marks, p, z, q)
+    }
+
+    // All that questions are answered from.
+    pub fn view(self) -> View
+        ensures { λ r. ⌜ r ≡ viewOf self ⌝ }
+    {
+        let shown = self.shown();
+        let marks = self.model.live;
+        let uppers = self.numbers.uppers;
+        let lowers = self.numbers.lowers;
+        let means = self.numbers.means;
+        View {
+            shown,
+            marks,
+            uppers,
+            lowers,
+            means,
+        }
     }
 }

@@ -1,35 +1,22 @@
--- `live`: the tests and the number are the definition's, at the register's fields.
-use mathlib.Core.Path.{refl, _∙_}
-use borrow.Author.Needs.{needs}
+-- `live`: the question on what the register shows, and its list of numbers.
+use mathlib.Core.Path.{ap, _∙_}
+use Rattle.questions.specs.Questions.{liveOf}
 use Rattle.register.specs.Questions.{liveIn}
-use Rattle.held.proofs.Bounds.{narrow-held, has-entry-held, entry-value-held}
-use Rattle.calls.proofs.Answers.{answered-same}
+use borrow.Author.Needs.{needs}
 use Rattle.register.proofs.Register.live.Statement.{statement}
 use Rattle.register.proofs.Register.live.Tie as tie
 
-sizes-held-requires : tie.Need-sizes-held-requires
-sizes-held-requires c κs = search needs
+shown-requires : tie.Need-shown-requires
+shown-requires c κs = search needs
 
-entry-value-requires : tie.Need-entry-value-requires
-entry-value-requires c κs = let sizes = c .before .before .sizes-held .ensures in narrow-held (sizes .0) (sizes .1) (sizes .2)
-
-holds-model-requires : tie.Need-holds-model-requires
-holds-model-requires c κs = search needs
-
-has-entry-requires : tie.Need-has-entry-requires
-has-entry-requires c κs = search needs
-
-answered-requires : tie.Need-answered-requires
-answered-requires c κs = search needs
+live-requires : tie.Need-live-requires
+live-requires c κs = search needs
 
 returns : tie.Need-returns
 unfolding liveIn
 returns c =
-    let sizes = c .before .before .before .before .before .before .sizes-held .ensures in
-    c .answered .ensures
-    ∙ answered-same (c .before .before .holds-model .ensures) refl (has-entry-held (sizes .0) (sizes .1) _ _ _ (c .before .has-entry .ensures)) refl (entry-value-held (sizes .0) (sizes .1) _ _ _ _ (c .before .before .before .entry-value .ensures))
+    let args = c .before .before .before .before .args in
+    c .live .ensures ∙ ap (λ h. liveOf h (args .self .model .live) (args .p) (args .z) (args .q)) (c .before .before .shown .ensures)
 
 pub live-spec : {M : Type 1} → statement M
-live-spec =
-    tie.close
-    (tie.spec sizes-held-requires entry-value-requires holds-model-requires has-entry-requires answered-requires returns)
+live-spec = tie.close (tie.spec shown-requires live-requires returns)

@@ -1,35 +1,20 @@
--- `margin`: the tests and the number are the definition's, at the register's fields.
-use mathlib.Core.Path.{refl, _∙_}
-use borrow.Author.Needs.{needs}
+-- `margin`: the question on what the register shows.
+use mathlib.Core.Path.{ap, _∙_}
+use Rattle.questions.specs.Questions.{marginOf}
 use Rattle.register.specs.Questions.{marginIn}
-use Rattle.calls.proofs.Answers.{answered-same}
+use borrow.Author.Needs.{needs}
 use Rattle.register.proofs.Register.margin.Statement.{statement}
 use Rattle.register.proofs.Register.margin.Tie as tie
 
-holds-model-requires : tie.Need-holds-model-requires
-holds-model-requires c κs = search needs
+shown-requires : tie.Need-shown-requires
+shown-requires c κs = search needs
 
-is-held-requires : tie.Need-is-held-requires
-is-held-requires c κs = search needs
-
-lowers-stand-requires : tie.Need-lowers-stand-requires
-lowers-stand-requires c κs = search needs
-
-answered-requires : tie.Need-answered-requires
-answered-requires c κs = search needs
+margin-requires : tie.Need-margin-requires
+margin-requires c κs = search needs
 
 returns : tie.Need-returns
 unfolding marginIn
-returns c =
-    c .answered .ensures
-    ∙ answered-same (c .before .before .before .holds-model .ensures) (c .before .before .is-held .ensures) refl (c .before .lowers-stand .ensures) refl
+returns c = c .margin .ensures ∙ ap marginOf (c .before .shown .ensures)
 
 pub margin-spec : {M : Type 1} → statement M
-margin-spec =
-    tie.close
-    (tie.spec
-    holds-model-requires
-    is-held-requires
-    lowers-stand-requires
-    answered-requires
-    returns)
+margin-spec = tie.close (tie.spec shown-requires margin-requires returns)

@@ -1,48 +1,22 @@
--- `mean_steps`: the tests and the number are the definition's, at the register's fields.
-use mathlib.Core.Path.{_∙_}
-use borrow.Author.Needs.{needs}
+-- `mean_steps`: the question on what the register shows, and its list of numbers.
+use mathlib.Core.Path.{ap, _∙_}
+use Rattle.questions.specs.Questions.{meanOf}
 use Rattle.register.specs.Questions.{meanIn}
-use Rattle.held.proofs.Bounds.{narrow-held, has-row-held, row-value-held}
-use Rattle.calls.proofs.Answers.{answered-same}
+use borrow.Author.Needs.{needs}
 use Rattle.register.proofs.Register.mean_steps.Statement.{statement}
 use Rattle.register.proofs.Register.mean_steps.Tie as tie
 
-sizes-held-requires : tie.Need-sizes-held-requires
-sizes-held-requires c κs = search needs
+shown-requires : tie.Need-shown-requires
+shown-requires c κs = search needs
 
-row-value-requires : tie.Need-row-value-requires
-row-value-requires c κs = let sizes = c .before .before .sizes-held .ensures in narrow-held (sizes .0) (sizes .1) (sizes .2)
-
-holds-model-requires : tie.Need-holds-model-requires
-holds-model-requires c κs = search needs
-
-is-held-requires : tie.Need-is-held-requires
-is-held-requires c κs = search needs
-
-has-row-requires : tie.Need-has-row-requires
-has-row-requires c κs = search needs
-
-means-stand-requires : tie.Need-means-stand-requires
-means-stand-requires c κs = search needs
-
-answered-requires : tie.Need-answered-requires
-answered-requires c κs = search needs
+mean-steps-requires : tie.Need-mean-steps-requires
+mean-steps-requires c κs = search needs
 
 returns : tie.Need-returns
 unfolding meanIn
 returns c =
-    let sizes = c .before .before .before .before .before .before .before .before .sizes-held .ensures in
-    c .answered .ensures
-    ∙ answered-same (c .before .before .before .before .holds-model .ensures) (c .before .before .before .is-held .ensures) (has-row-held (sizes .0) (sizes .1) _ _ (c .before .before .has-row .ensures)) (c .before .means-stand .ensures) (row-value-held (sizes .0) (sizes .1) _ _ _ (c .before .before .before .before .before .row-value .ensures))
+    let args = c .before .before .before .before .args in
+    c .mean-steps .ensures ∙ ap (λ h. meanOf h (args .self .numbers .means) (args .p) (args .z)) (c .before .before .shown .ensures)
 
 pub mean-steps-spec : {M : Type 1} → statement M
-mean-steps-spec =
-    tie.close
-    (tie.spec
-    sizes-held-requires row-value-requires
-    holds-model-requires
-    is-held-requires
-    has-row-requires
-    means-stand-requires
-    answered-requires
-    returns)
+mean-steps-spec = tie.close (tie.spec shown-requires mean-steps-requires returns)

@@ -1,0 +1,2 @@
+-- The five questions, answered from what is held.
+pub mod Questions
