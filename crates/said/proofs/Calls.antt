@@ -1,0 +1,84 @@
+-- The laws of calls: the word of each says it, any other word says none, and what a line says by its first word and the rest.
+use Prim.Native.Nat.{ℕ, _-_}
+use mathlib.Core.Bool.{true, false, and-eq-true-iff}
+use mathlib.Core.List.{List, [], _∷_}
+use mathlib.Core.Path.{_≡_, refl, sym, ap₂, _∙_}
+use lib.Dec.{eqb}
+use lib.ListN.{length, take, drop}
+use borrow.Author.Tests.{eqb-true}
+use native.Mathlib.Omega.{arith}
+use Rattle.said.specs.declared.Said.{Said}
+use Rattle.said.specs.declared.Said.the-variants.{Nothing, Unclear, Clear, Model, Delivery, Upper, Lower, Steps, Margin, Live}
+use Rattle.said.specs.Said.{same, isPlain, isSilent, alone, onFile, onRow, onEntry, byWord, saidBy}
+use Rattle.said.specs.Said.{clearWord, modelWord, deliveryWord, upperWord, lowerWord, stepsWord, marginWord, liveWord}
+use Rattle.said.specs.Contracts.{wordEnd, argumentsIn}
+use Rattle.said.proofs.Words.{pieces-split}
+use Rattle.said.proofs.Rest.{part-from}
+
+-- Words that are the same are equal.
+pub same-is : (v w : List ℕ) → same v w ≡ true → v ≡ w
+unfolding same
+same-is [] [] e = refl
+same-is [] (y ∷ ys) e = let z : _≡_ {A = ℕ} 0 1 = cc in absurd (omega arith)
+same-is (x ∷ xs) [] e = let z : _≡_ {A = ℕ} 0 1 = cc in absurd (omega arith)
+same-is (x ∷ xs) (y ∷ ys) e =
+    let (first, rest) = and-eq-true-iff (eqb x y) (same xs ys) .0 e in ap₂ (λ z zs. z ∷ zs) (eqb-true x y first) (same-is xs ys rest)
+
+-- Each call by its word.
+module _ (w : List ℕ) (ws : List (List ℕ)) where
+  pub says-clear : same w clearWord ≡ true → byWord w ws ≡ alone Clear ws
+  unfolding byWord same
+  says-clear e = rw (same-is w clearWord e)
+
+  pub says-model : same w modelWord ≡ true → byWord w ws ≡ onFile Model ws
+  unfolding byWord same
+  says-model e = rw (same-is w modelWord e)
+
+  pub says-delivery : same w deliveryWord ≡ true → byWord w ws ≡ onFile Delivery ws
+  unfolding byWord same
+  says-delivery e = rw (same-is w deliveryWord e)
+
+  pub says-upper : same w upperWord ≡ true → byWord w ws ≡ onEntry Upper ws
+  unfolding byWord same
+  says-upper e = rw (same-is w upperWord e)
+
+  pub says-lower : same w lowerWord ≡ true → byWord w ws ≡ onEntry Lower ws
+  unfolding byWord same
+  says-lower e = rw (same-is w lowerWord e)
+
+  pub says-steps : same w stepsWord ≡ true → byWord w ws ≡ onRow Steps ws
+  unfolding byWord same
+  says-steps e = rw (same-is w stepsWord e)
+
+  pub says-margin : same w marginWord ≡ true → byWord w ws ≡ alone Margin ws
+  unfolding byWord same
+  says-margin e = rw (same-is w marginWord e)
+
+  pub says-live : same w liveWord ≡ true → byWord w ws ≡ onEntry Live ws
+  unfolding byWord same
+  says-live e = rw (same-is w liveWord e)
+
+  -- Any other word.
+  pub says-none : same w clearWord ≡ false → same w modelWord ≡ false → same w deliveryWord ≡ false → same w upperWord ≡ false
+      → same w lowerWord ≡ false → same w stepsWord ≡ false → same w marginWord ≡ false → same w liveWord ≡ false → byWord w ws ≡ Unclear
+  unfolding byWord
+  says-none a b c d e f g h = rw (a, b, c, d, e, f, g, h)
+
+-- A line by its first word and the rest.
+pub line-says : (l : List ℕ) → isSilent l ≡ false → isPlain l ≡ true → saidBy l ≡ byWord (take (wordEnd l) l) (argumentsIn (drop (wordEnd l) l))
+unfolding saidBy
+line-says l loud plain = rw (loud, plain, pieces-split l)
+
+-- The same by the parts that the code takes.
+pub line-found : (l : List ℕ) (e : ℕ) → isSilent l ≡ false → isPlain l ≡ true → e ≡ wordEnd l
+    → {r : Said} → r ≡ byWord (take e l) (argumentsIn (take (length l - e) (drop e l))) → r ≡ saidBy l
+line-found l e loud plain end made = made ∙ rw (part-from e l, end) (sym (line-says l loud plain))
+
+-- A line that gets no reply, and one that is not plain.
+pub silent-says : (l : List ℕ) → isSilent l ≡ true → saidBy l ≡ Nothing
+unfolding saidBy
+silent-says l e = rw e
+
+pub odd-says : (l : List ℕ) → isSilent l ≡ false → isPlain l ≡ false → saidBy l ≡ Unclear
+unfolding saidBy
+odd-says l loud e = rw (loud, e)

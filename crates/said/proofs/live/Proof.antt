@@ -1,0 +1,31 @@
+-- `live`: the call is said where the rest has three numbers, which are its own in their order.
+use borrow.Author.Needs.{needs}
+use Rattle.said.proofs.Rest.{entry-found}
+use Rattle.said.proofs.live.Statement.{statement}
+use Rattle.said.proofs.live.Tie as tie
+
+numbers-in-requires : tie.Need-numbers-in-requires
+numbers-in-requires c κs = search needs
+
+enum-known-a : tie.Need-enum-known-a
+enum-known-a c = search needs
+
+enum-told : tie.Need-enum-told
+enum-told c = search needs
+
+enum-told-2 : tie.Need-enum-told-2
+enum-told-2 c = search needs
+
+returns : tie.Need-returns
+returns c = entry-found _ _ _ (c .before .before .before .numbers-in .ensures) (c .before .a .given .1)
+
+returns-2 : tie.Need-returns-2
+returns-2 c = entry-found _ _ _ (c .before .before .numbers-in .ensures) (c .enum-told .given .1)
+
+returns-3 : tie.Need-returns-3
+returns-3 c = entry-found _ _ _ (c .before .before .numbers-in .ensures) (c .enum-told2 .given .1)
+
+pub live-spec : {M : Type 1} → statement M
+live-spec =
+    tie.close
+    (tie.spec numbers-in-requires enum-known-a enum-told enum-told-2 returns returns-2 returns-3)

@@ -1,0 +1,127 @@
+-- What a line of a script says: a call, no call, or nothing that wants a reply (docs/RULES.md, "The desk"). A line stands here without its end.
+use Prim.Native.Nat.{ℕ}
+use mathlib.Core.Bool.{Bool, true, false, cond, not, _&&_}
+use mathlib.Core.List.{List, [], _∷_}
+use lib.Dec.{eqb, leb}
+use lib.ListN.{length}
+use Rattle.text.specs.Reading.{pieces, numberIn}
+use Rattle.said.specs.declared.Said.{Said}
+use Rattle.said.specs.declared.Said.the-variants.{Nothing, Unclear, Clear, Model, Delivery, Upper, Lower, Steps, Margin, Live}
+
+-- ---- bytes and words
+
+-- Two words are the same, byte by byte.
+unfoldable pub same : List ℕ → List ℕ → Bool
+same [] [] = true
+same [] (y ∷ ys) = false
+same (x ∷ xs) [] = false
+same (x ∷ xs) (y ∷ ys) = eqb x y && same xs ys
+
+-- Every byte of a text passes the test.
+unfoldable pub every : (ℕ → Bool) → List ℕ → Bool
+every t [] = true
+every t (x ∷ xs) = t x && every t xs
+
+-- No control byte: none below 32, and not 127.
+abbrev pub isPrintable : ℕ → Bool
+isPrintable b = leb 32 b && not (eqb b 127)
+
+-- A decimal digit, 48 to 57.
+abbrev pub isDigit : ℕ → Bool
+isDigit b = leb 48 b && leb b 57
+
+-- A line that can say a call: at most 300 bytes, none of them a control byte.
+unfoldable pub isPlain : List ℕ → Bool
+isPlain line = leb (length line) 300 && every isPrintable line
+
+-- A line that gets no reply: an empty one, or one that starts with `#` (35).
+unfoldable pub isSilent : List ℕ → Bool
+isSilent [] = true
+isSilent (x ∷ xs) = eqb x 35
+
+-- A number is 1 to 9 decimal digits.
+unfoldable pub isNumber : List ℕ → Bool
+isNumber w = (leb 1 (length w) && leb (length w) 9) && every isDigit w
+
+-- A file's name is 1 to 255 bytes; that it has no space and no control byte follows from where it stands.
+unfoldable pub isName : List ℕ → Bool
+isName w = leb 1 (length w) && leb (length w) 255
+
+-- ---- the words after the first
+
+-- No words.
+abbrev pub alone : Said → List (List ℕ) → Said
+alone call [] = call
+alone call (w ∷ ws) = Unclear
+
+-- One word that names a file.
+abbrev pub isFile : List (List ℕ) → Bool
+isFile [] = false
+isFile (w ∷ []) = isName w
+isFile (w ∷ v ∷ ws) = false
+
+abbrev pub onFile : Said → List (List ℕ) → Said
+onFile call ws = cond (isFile ws) call Unclear
+
+-- Two numbers: p and Z.
+abbrev pub onRow : (ℕ → ℕ → Said) → List (List ℕ) → Said
+onRow call [] = Unclear
+onRow call (p ∷ []) = Unclear
+onRow call (p ∷ z ∷ []) = cond (isNumber p && isNumber z) (call (numberIn p) (numberIn z)) Unclear
+onRow call (p ∷ z ∷ w ∷ ws) = Unclear
+
+-- Three numbers: p, Z and q.
+abbrev pub onEntry : (ℕ → ℕ → ℕ → Said) → List (List ℕ) → Said
+onEntry call [] = Unclear
+onEntry call (p ∷ []) = Unclear
+onEntry call (p ∷ z ∷ []) = Unclear
+onEntry call (p ∷ z ∷ q ∷ []) = cond (isNumber p && (isNumber z && isNumber q)) (call (numberIn p) (numberIn z) (numberIn q)) Unclear
+onEntry call (p ∷ z ∷ q ∷ w ∷ ws) = Unclear
+
+-- ---- the calls by their first words
+
+-- "clear", "model", "delivery", "upper", "lower", "steps", "margin", "live".
+abbrev pub clearWord : List ℕ
+clearWord = 99 ∷ 108 ∷ 101 ∷ 97 ∷ 114 ∷ []
+
+abbrev pub modelWord : List ℕ
+modelWord = 109 ∷ 111 ∷ 100 ∷ 101 ∷ 108 ∷ []
+
+abbrev pub deliveryWord : List ℕ
+deliveryWord = 100 ∷ 101 ∷ 108 ∷ 105 ∷ 118 ∷ 101 ∷ 114 ∷ 121 ∷ []
+
+abbrev pub upperWord : List ℕ
+upperWord = 117 ∷ 112 ∷ 112 ∷ 101 ∷ 114 ∷ []
+
+abbrev pub lowerWord : List ℕ
+lowerWord = 108 ∷ 111 ∷ 119 ∷ 101 ∷ 114 ∷ []
+
+abbrev pub stepsWord : List ℕ
+stepsWord = 115 ∷ 116 ∷ 101 ∷ 112 ∷ 115 ∷ []
+
+abbrev pub marginWord : List ℕ
+marginWord = 109 ∷ 97 ∷ 114 ∷ 103 ∷ 105 ∷ 110 ∷ []
+
+abbrev pub liveWord : List ℕ
+liveWord = 108 ∷ 105 ∷ 118 ∷ 101 ∷ []
+
+-- What a first word and the words after it say.
+unfoldable pub byWord : List ℕ → List (List ℕ) → Said
+byWord w ws =
+    cond (same w clearWord) (alone Clear ws)
+    (cond (same w modelWord) (onFile Model ws)
+    (cond (same w deliveryWord) (onFile Delivery ws)
+    (cond (same w upperWord) (onEntry Upper ws)
+    (cond (same w lowerWord) (onEntry Lower ws)
+    (cond (same w stepsWord) (onRow Steps ws)
+    (cond (same w marginWord) (alone Margin ws)
+    (cond (same w liveWord) (onEntry Live ws) Unclear)))))))
+
+-- What the words of a line say. (A line has at least one word, an empty one at least.)
+abbrev pub byWords : List (List ℕ) → Said
+byWords [] = Unclear
+byWords (w ∷ ws) = byWord w ws
+
+-- What a line says. Its words are what stands between spaces (32).
+unfoldable pub saidBy : List ℕ → Said
+saidBy line = cond (isSilent line) Nothing (cond (isPlain line) (byWords (pieces 32 line)) Unclear)

@@ -1,0 +1,143 @@
+// What a line of a script says: a call, no call, or nothing that wants a reply.
+
+use arguments::Numbers;
+use arguments::is_file;
+use arguments::numbers_in;
+use spelling::is_plain;
+use spelling::is_word;
+use spelling::word_end;
+
+mod arguments; // arguments.rt: the words after the first
+mod spelling; // spelling.rt: where words end and what they spell
+
+ghost use mathlib.Core.Path.{_≡_};
+ghost use Rattle.said.specs.Said.{saidBy, isSilent, byWord, alone, onFile, onRow, onEntry};
+ghost use Rattle.said.specs.Contracts.{argumentsIn};
+
+// A call by its words, `Nothing` for a line that gets no reply, and `Unclear` for one that says no call. The file that a filing names is the second word
+// of the line.
+pub enum Said {
+    Nothing,
+    Unclear,
+    Clear,
+    Model,
+    Delivery,
+    Upper { p: usize, z: usize, q: usize },
+    Lower { p: usize, z: usize, q: usize },
+    Steps { p: usize, z: usize },
+    Margin,
+    Live { p: usize, z: usize, q: usize },
+}
+
+// Whether a line gets no reply: it is empty, or starts with `#`.
+fn is_silent(line: &[u8]) -> bool
+    ensures { λ r. ⌜ r ≡ isSilent (now (line .entry)) ⌝ }
+{
+    if line.len() == 0 {
+        return true;
+    }
+    line[0] == b'#'
+}
+
+// A call that is one word.
+fn alone(rest: &[u8], call: Said) -> Said
+    ensures { λ r. ⌜ r ≡ alone call (argumentsIn (now (rest .entry))) ⌝ }
+{
+    if rest.len() == 0 { call } else { Said::Unclear }
+}
+
+// A call that names a file.
+fn on_file(rest: &[u8], call: Said) -> Said
+    ensures { λ r. ⌜ r ≡ onFile call (argumentsIn (now (rest .entry))) ⌝ }
+{
+    if is_file(rest) { call } else { Said::Unclear }
+}
+
+// The upper of an entry.
+fn upper(rest: &[u8]) -> Said
+    ensures { λ r. ⌜ r ≡ onEntry Said.Upper (argumentsIn (now (rest .entry))) ⌝ }
+{
+    match numbers_in(rest) {
+        Numbers::Three { a, b, c } => Said::Upper { p: a, z: b, q: c },
+        Numbers::Two { .. } => Said::Unclear,
+        Numbers::Other => Said::Unclear,
+    }
+}
+
+// The lower of an entry.
+fn lower(rest: &[u8]) -> Said
+    ensures { λ r. ⌜ r ≡ onEntry Said.Lower (argumentsIn (now (rest .entry))) ⌝ }
+{
+    match numbers_in(rest) {
+        Numbers::Three { a, b, c } => Said::Lower { p: a, z: b, q: c },
+        Numbers::Two { .. } => Said::Unclear,
+        Numbers::Other => Said::Unclear,
+    }
+}
+
+// The live mark of an entry.
+fn live(rest: &[u8]) -> Said
+    ensures { λ r. ⌜ r ≡ onEntry Said.Live (argumentsIn (now (rest .entry))) ⌝ }
+{
+    match numbers_in(rest) {
+        Numbers::Three { a, b, c } => Said::Live { p: a, z: b, q: c },
+        Numbers::Two { .. } => Said::Unclear,
+        Numbers::Other => Said::Unclear,
+    }
+}
+
+// The mean steps of a row.
+fn steps(rest: &[u8]) -> Said
+    ensures { λ r. ⌜ r ≡ onRow Said.Steps (argumentsIn (now (rest .entry))) ⌝ }
+{
+    match numbers_in(rest) {
+        Numbers::Two { a, b } => Said::Steps { p: a, z: b },
+        Numbers::Three { .. } => Said::Unclear,
+        Numbers::Other => Said::Unclear,
+    }
+}
+
+// The call that a first word and the rest of the line say: the rest is empty, or a space and the other words.
+fn by_word(word: &[u8], rest: &[u8]) -> Said
+    ensures { λ r. ⌜ r ≡ byWord (now (word .entry)) (argumentsIn (now (rest .entry))) ⌝ }
+{
+    if is_word(word, b"clear") {
+        return alone(rest, Said::Clear);
+    }
+    if is_word(word, b"model") {
+        return on_file(rest, Said::Model);
+    }
+    if is_word(word, b"delivery") {
+        return on_file(rest, Said::Delivery);
+    }
+    if is_word(word, b"upper") {
+        return upper(rest);
+    }
+    if is_word(word, b"lower") {
+        return lower(rest);
+    }
+    if is_word(word, b"steps") {
+        return steps(rest);
+    }
+    if is_word(word, b"margin") {
+        return alone(rest, Said::Margin);
+    }
+    if is_word(word, b"live") {
+        return live(rest);
+    }
+    Said::Unclear
+}
+
+// What a line, without its end, says.
+pub fn said_by(line: &[u8]) -> Said
+    ensures { λ r. ⌜ r ≡ saidBy (now (line .entry)) ⌝ }
+{
+    if is_silent(line) {
+        return Said::Nothing;
+    }
+    if !is_plain(line) {
+        return Said::Unclear;
+    }
+    let end = word_end(line);
+    by_word(&line[..end], &line[end..])
+}
