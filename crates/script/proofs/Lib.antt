@@ -1,0 +1,1 @@
+-- Scripts: responses of a register are those of the plain pair, and lines across pieces.
