@@ -1,1 +1,4 @@
--- Scripts: responses of a register are those of the plain pair, and lines across pieces.
+-- Scripts: the code's responses, pieces of an input, and the theorem that a desk prints what a script does.
+pub mod Responses
+pub mod Pieces
+pub mod Printing

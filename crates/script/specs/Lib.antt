@@ -1,3 +1,4 @@
--- What a script of calls prints. `Contracts` serves the contracts of the code alone.
+-- What a script of calls prints, and a desk byte by byte. `Contracts` serves the contracts of the code alone.
 pub mod Script
+pub mod Serving
 pub mod Contracts

@@ -1,0 +1,184 @@
+-- What a desk prints, byte by byte, is what the script prints: the replies of the plain pair to the calls that the lines of the input say.
+use Prim.Native.Nat.{ℕ, zero, suc}
+use native.Mathlib.Omega.{arith}
+use mathlib.Core.Bool.{Bool, true, false, cond}
+use mathlib.Core.List.{List, [], _∷_, _++_, map, append-nil, append-assoc}
+use mathlib.Core.Path.{_≡_, refl, sym, ap, ap₂, _∙_}
+use lib.Dec.{eqb}
+use lib.ListN.{take}
+use Rattle.text.specs.Reading.{pieces}
+use Rattle.calls.specs.Calls.{Call}
+use Rattle.register.specs.Filing.{cleared}
+use Rattle.history.specs.Plain.{Event, pairOf, plainReply}
+use Rattle.history.specs.Run.{registerAfter, history}
+use Rattle.history.specs.Mission.{Mission}
+use Rattle.history.proofs.Plain.{as-plain-pair}
+use Rattle.history.proofs.Mission.{mission}
+use Rattle.said.specs.Said.{saidBy}
+use Rattle.said.proofs.Meaning.{kept-says}
+use Rattle.replies.specs.Replies.{replyLine}
+use Rattle.script.specs.Script.{Line, Asked, nothing, unclear, call, askedBy, asks, eventsBy, textBy, printedAfter, callsBy, callsAfter, Prints}
+use Rattle.script.specs.Serving.{keptBytes, State, Byte, registerBy, replyBy, kept, ended, step, after, Serves}
+use Rattle.script.proofs.Pieces.{piece-longer, piece-ended, pieces-closed, last-off}
+
+-- ---- one line
+
+-- A register after any calls does with a line what the plain pair does.
+register-by : (cs : List Call) (a : Asked) → registerBy (registerAfter cs) a ≡ registerAfter (callsBy cs a)
+unfolding registerAfter
+register-by cs nothing = refl
+register-by cs unclear = refl
+register-by cs (call c) = refl
+
+history-by : (cs : List Call) (a : Asked) → history (callsBy cs a) ≡ eventsBy (history cs) a
+unfolding history
+history-by cs nothing = refl
+history-by cs unclear = refl
+history-by cs (call c) = rw (as-plain-pair cs c)
+
+reply-by : (cs : List Call) (a : Asked) → replyBy (registerAfter cs) a ≡ textBy (history cs) a
+reply-by cs nothing = refl
+reply-by cs unclear = refl
+reply-by cs (call c) = ap replyLine (as-plain-pair cs c)
+
+-- ---- lines in their order
+
+eventsAfter : List Event → List Line → List Event
+eventsAfter es [] = es
+eventsAfter es (l ∷ ls) = eventsAfter (eventsBy es (asks l)) ls
+
+history-after : (cs : List Call) (ls : List Line) → history (callsAfter cs ls) ≡ eventsAfter (history cs) ls
+unfolding callsAfter eventsAfter
+history-after cs [] = refl
+history-after cs (l ∷ ls) = history-after (callsBy cs (asks l)) ls ∙ ap (λ es. eventsAfter es ls) (history-by cs (asks l))
+
+-- One line more, at the end.
+calls-more : (cs : List Call) (ls : List Line) (l : Line) → callsAfter cs (ls ++ (l ∷ [])) ≡ callsBy (callsAfter cs ls) (asks l)
+unfolding callsAfter
+calls-more cs [] l = refl
+calls-more cs (k ∷ ls) l = calls-more (callsBy cs (asks k)) ls l
+
+printed-more : (es : List Event) (ls : List Line) (l : Line)
+    → printedAfter es (ls ++ (l ∷ [])) ≡ printedAfter es ls ++ textBy (eventsAfter es ls) (asks l)
+unfolding printedAfter eventsAfter
+printed-more es [] l = append-nil (textBy es (asks l))
+printed-more es (k ∷ ls) l =
+    ap (λ t. textBy es (asks k) ++ t) (printed-more (eventsBy es (asks k)) ls l)
+    ∙ sym (append-assoc (textBy es (asks k)) (printedAfter (eventsBy es (asks k)) ls) (textBy (eventsAfter (eventsBy es (asks k)) ls) (asks l)))
+
+lines-more : (ls : List Line) (l : Line) → map (λ l. l .bytes) (ls ++ (l ∷ [])) ≡ map (λ l. l .bytes) ls ++ (l .bytes ∷ [])
+lines-more [] l = refl
+lines-more (k ∷ ls) l = ap (λ t. k .bytes ∷ t) (lines-more ls l)
+
+-- ---- byte by byte
+
+-- The state of a desk after the input: lines that have ended, and the rest, of which the first bytes are kept.
+record Follows (input : List ℕ) (s : State) : Type 0 where
+  lines : List Line
+  rest : List ℕ
+  so-far : pieces 10 input ≡ map (λ l. l .bytes) lines ++ (rest ∷ [])
+  line-kept : s .line ≡ take keptBytes rest
+  register-is : s .register ≡ registerAfter (callsAfter [] lines)
+  text-is : s .text ≡ printedAfter [] lines
+
+take-kept : (n : ℕ) (l k : List ℕ) → take n (take n l ++ k) ≡ take n (l ++ k)
+take-kept zero l k = refl
+take-kept (suc n) [] k = refl
+take-kept (suc n) (x ∷ l) k = ap (λ t. x ∷ t) (take-kept n l k)
+
+pub start : State
+start = record { register = cleared; line = []; text = [] }
+
+starts : Follows [] start
+unfolding start pieces registerAfter callsAfter printedAfter
+starts = record { lines = []; rest = []; so-far = refl; line-kept = refl; register-is = refl; text-is = refl }
+
+module _ {input : List ℕ} {s : State} (so : Follows input s) where
+  follows-kept : (b : ℕ) → eqb b 10 ≡ false → Follows (input ++ (b ∷ [])) (kept s b)
+  follows-kept b other = record {
+    lines = so .lines;
+    rest = so .rest ++ (b ∷ []);
+    so-far = piece-longer 10 input (map (λ l. l .bytes) (so .lines)) (so .rest) (so .so-far) b other;
+    line-kept = rw (so .line-kept) (take-kept keptBytes (so .rest) (b ∷ []));
+    register-is = so .register-is;
+    text-is = so .text-is;
+  }
+
+  module _ (b : ℕ) (f : List ℕ) (is : eqb b 10 ≡ true) where
+    ended-line : Line
+    ended-line = record { bytes = so .rest; file = f }
+
+    asked : askedBy (saidBy (s .line)) f ≡ asks ended-line
+    unfolding ended-line
+    asked = ap (λ said. askedBy said f) (ap saidBy (so .line-kept) ∙ kept-says keptBytes (so .rest) (omega arith))
+
+    follows-ended : Follows (input ++ (b ∷ [])) (ended s f)
+    unfolding ended-line history
+    follows-ended =
+        let cs = callsAfter [] (so .lines) in
+        record {
+          lines = so .lines ++ (ended-line ∷ []);
+          rest = [];
+          so-far = piece-ended 10 input (map (λ l. l .bytes) (so .lines)) (so .rest) (so .so-far) b is
+              ∙ ap (λ ls. ls ++ ([] ∷ [])) (sym (lines-more (so .lines) ended-line));
+          line-kept = refl;
+          register-is = rw (asked, so .register-is) (register-by cs (asks ended-line) ∙ ap registerAfter (sym (calls-more [] (so .lines) ended-line)));
+          text-is = rw (asked, so .register-is, so .text-is)
+              (ap (λ t. printedAfter [] (so .lines) ++ t) (reply-by cs (asks ended-line) ∙ ap (λ es. textBy es (asks ended-line)) (history-after [] (so .lines)))
+              ∙ sym (printed-more [] (so .lines) ended-line));
+        }
+
+  follows-step : (x : Byte) → Follows (input ++ (x .byte ∷ [])) (step s x)
+  unfolding step
+  follows-step x = go (eqb (x .byte) 10) refl
+    where
+      go : (t : Bool) → eqb (x .byte) 10 ≡ t → Follows (input ++ (x .byte ∷ [])) (cond t (ended s (x .file)) (kept s (x .byte)))
+      go true is = follows-ended (x .byte) (x .file) is
+      go false other = follows-kept (x .byte) other
+
+follows-after : {input : List ℕ} {s : State} (xs : List Byte) → Follows input s → Follows (input ++ map (λ x. x .byte) xs) (after s xs)
+unfolding after
+follows-after {input} [] so = rw (append-nil input) so
+follows-after {input} (x ∷ xs) so =
+    rw (append-assoc input (x .byte ∷ []) (map (λ x. x .byte) xs)) at (follows-after xs (follows-step so x))
+
+-- ---- the theorems
+
+-- Bytes that a desk takes one piece after the other are taken as one.
+after-append : (s : State) (xs ys : List Byte) → after s (xs ++ ys) ≡ after (after s xs) ys
+unfolding after
+after-append s [] ys = refl
+after-append s (x ∷ xs) ys = after-append (step s x) xs ys
+
+bytes-append : (xs ys : List Byte) → map (λ x. x .byte) (xs ++ ys) ≡ map (λ x. x .byte) xs ++ map (λ x. x .byte) ys
+bytes-append [] ys = refl
+bytes-append (x ∷ xs) ys = ap (λ l. x .byte ∷ l) (bytes-append xs ys)
+
+pub serves-none : (s : State) → Serves s [] s
+unfolding after
+serves-none s = record { taken = []; as-bytes = refl; leads = refl }
+
+pub serves-then : {s t u : State} {bs cs : List ℕ} → Serves s bs t → Serves t cs u → Serves s (bs ++ cs) u
+serves-then {s} one two = record {
+  taken = one .taken ++ two .taken;
+  as-bytes = bytes-append (one .taken) (two .taken) ∙ ap₂ _++_ (one .as-bytes) (two .as-bytes);
+  leads = after-append s (one .taken) (two .taken) ∙ ap (λ t. after t (two .taken)) (one .leads) ∙ two .leads;
+}
+
+pub serves-byte : (t : State) (x : Byte) → Serves t (x .byte ∷ []) (step t x)
+unfolding after
+serves-byte t x = record { taken = x ∷ []; as-bytes = refl; leads = refl }
+
+-- What a desk prints of an input and a line end after it is what the script prints of the input.
+pub desk-prints : (input : List ℕ) {t : State} → Serves start (input ++ (10 ∷ [])) t → Prints input (t .text)
+desk-prints input served =
+    let so = follows-after (served .taken) starts in
+    record {
+      lines = so .lines;
+      of-input = last-off (map (λ l. l .bytes) (so .lines)) (pieces 10 input) (so .rest) [] (sym (so .so-far) ∙ ap (pieces 10) (served .as-bytes) ∙ pieces-closed 10 input refl);
+      printed = ap (λ t. t .text) (sym (served .leads)) ∙ so .text-is;
+    }
+
+-- The mission holds of the calls that the lines of any script say.
+pub script-mission : (ls : List Line) → Mission (callsAfter [] ls)
+script-mission ls = mission (callsAfter [] ls)
