@@ -5,7 +5,7 @@ ghost use Rattle.io.specs.Counts.{Counts};
 ghost use Rattle.files.specs.Read.{ReportOnSome};
 
 // Reads the start of a file into `out`, as much as it holds, and answers how many bytes. A file that is missing or cannot be opened counts as empty.
-fn read(path: &[u8], out: &mut [u8]) -> usize
+pub fn read(path: &[u8], out: &mut [u8]) -> usize
     ensures { λ r. ⌜ Counts r (now (out .exit)) ⌝ }
 {
     let fd = os::open_read(path);

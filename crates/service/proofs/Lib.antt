@@ -1,0 +1,2 @@
+-- A desk through a piece of input.
+pub mod Serving

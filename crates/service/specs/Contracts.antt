@@ -1,0 +1,39 @@
+-- The name of a filing's file, the change that a filing makes, and the bytes that are kept of a line.
+use Prim.Native.Nat.{ℕ, _+_}
+use mathlib.Core.Bool.{cond}
+use mathlib.Core.List.{List}
+use mathlib.Core.Path.{_≡_}
+use lib.Dec.{ltb}
+use lib.ListN.{length, set}
+use Rattle.register.specs.declared.Register.{Register}
+use Rattle.said.specs.declared.Said.{Said}
+use Rattle.said.specs.declared.Said.the-variants as Says
+use Rattle.said.specs.Said.{modelWord, deliveryWord}
+use Rattle.script.specs.declared.Responded.{Responded}
+use Rattle.script.specs.Serving.{keptBytes}
+use Rattle.script.specs.Contracts.{changedBy}
+
+-- Where the name stands in the line: after the word and a space.
+abbrev pub nameFrom : Said → ℕ
+nameFrom Says.Nothing = 0
+nameFrom Says.Unclear = 0
+nameFrom Says.Clear = 0
+nameFrom Says.Model = length modelWord + 1
+nameFrom Says.Delivery = length deliveryWord + 1
+nameFrom (Says.Upper p z q) = 0
+nameFrom (Says.Lower p z q) = 0
+nameFrom (Says.Steps p z) = 0
+nameFrom Says.Margin = 0
+nameFrom (Says.Live p z q) = 0
+
+-- The change was made, with some bytes for the file.
+pub record Performed (r : Register) (s : Said) (x : Responded) : Type 0 where
+  pub file : List ℕ
+  pub is : x ≡ changedBy r s file
+
+-- How many bytes are kept of a line with one byte more, and where it lies.
+abbrev pub keptCount : ℕ → ℕ
+keptCount k = cond (ltb k keptBytes) (k + 1) k
+
+abbrev pub keptLine : List ℕ → ℕ → ℕ → List ℕ
+keptLine line k b = cond (ltb k keptBytes) (set line k b) line

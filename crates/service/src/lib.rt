@@ -1,0 +1,160 @@
+// A desk: a register that takes its calls from lines of text. Input comes in pieces of any size, and lines go across pieces.
+
+use questions::View;
+use register::Register;
+use replies::REPLY_ROOM;
+use replies::put_response;
+use said::Said;
+use said::said_by;
+use script::Responded;
+use script::answer;
+use script::change;
+use script::may_change;
+use script::reads_file;
+ghost use mathlib.Core.Path.{_≡_};
+ghost use Prim.Native.Nat.{min};
+ghost use Rattle.io.specs.Counts.{Counts};
+ghost use Rattle.register.specs.Filing.{cleared};
+ghost use Rattle.service.specs.Service.{Opened, Took};
+ghost use Rattle.service.specs.Contracts.{nameFrom, Performed, keptCount, keptLine};
+
+// The bytes that are kept of a line: one more than a line that says a call may have.
+const KEPT: usize = 301;
+
+// A register, and what has come of the line that has not ended: its first bytes.
+pub struct Desk {
+    register: Register,
+    line: [u8; KEPT],
+    kept: usize,
+}
+
+// What serving a piece of input gives: the desk after it, how many bytes of the piece it took, and how many bytes it printed.
+pub struct Served {
+    pub desk: Desk,
+    pub taken: usize,
+    pub printed: usize,
+}
+
+// A desk whose register holds nothing, at the start of a line.
+pub fn opened() -> Desk
+    ensures { λ r. ⌜ Opened r ⌝ }
+{
+    Desk {
+        register: Register::empty(),
+        line: [0u8; KEPT],
+        kept: 0,
+    }
+}
+
+// The lesser of two numbers.
+fn least(a: usize, b: usize) -> usize
+    ensures { λ r. ⌜ r ≡ min a b ⌝ }
+{
+    if a < b { a } else { b }
+}
+
+// Where the name of a file stands in the line of a filing: after its word and a space.
+fn name_from(said: Said) -> usize
+    ensures { λ r. ⌜ r ≡ nameFrom said ⌝ }
+{
+    match said {
+        Said::Nothing => 0,
+        Said::Unclear => 0,
+        Said::Clear => 0,
+        Said::Model => 6,
+        Said::Delivery => 9,
+        Said::Upper { .. } => 0,
+        Said::Lower { .. } => 0,
+        Said::Steps { .. } => 0,
+        Said::Margin => 0,
+        Said::Live { .. } => 0,
+    }
+}
+
+// Reads the file that a filing names, as much as `file` holds.
+fn fetch(said: Said, line: &[u8], file: &mut [u8]) -> usize
+    ensures { λ r. ⌜ Counts r (now (file .exit)) ⌝ }
+{
+    let from = name_from(said);
+    if line.len() < from {
+        return 0;
+    }
+    files::read(&line[from..], file)
+}
+
+// Makes the change that a line asks for. Its file is read only if the register has no reason of its own to refuse it, and one byte more than any
+// accepted file has, so that a longer file is refused by its number.
+fn perform(register: Register, said: Said, line: &[u8]) -> Responded
+    ensures { λ r. ⌜ Performed register said r ⌝ }
+{
+    if !reads_file(register.has_model(), said) {
+        return change(register, said, b"");
+    }
+    let mut file = [0u8; delivery::format::MOST_BYTES + 1];
+    let n = fetch(said, line, &mut file);
+    change(register, said, &file[..n])
+}
+
+// Keeps a byte of a line, if there is a place for it, and answers how many are kept.
+fn keep(line: &mut [u8; KEPT], kept: usize, byte: u8) -> usize
+    ensures { λ r. ⌜ (r ≡ keptCount kept) × (now (line .exit) ≡ keptLine (now (line .entry)) kept byte) ⌝ }
+{
+    if kept < KEPT {
+        line[kept] = byte;
+        return kept + 1;
+    }
+    kept
+}
+
+// Takes a piece of input, as much of it as there is surely room for the replies to, and prints these from the start of `out` on.
+pub fn serve(desk: Desk, piece: &[u8], out: &mut [u8]) -> Served
+    ensures { λ r. ⌜ Took desk (now (piece .entry)) (now (out .entry)) (now (out .exit)) r ⌝ }
+{
+    let taken = least(piece.len(), out.len() / REPLY_ROOM);
+    let mut register = desk.register;
+    let mut view = register.view();
+    let mut line = desk.line;
+    let mut kept = least(desk.kept, KEPT);
+    let mut at = 0;
+    let mut i = 0;
+    while i < taken {
+        let byte = piece[i];
+        i += 1;
+        if byte != b'\n' {
+            kept = keep(&mut line, kept, byte);
+            continue;
+        }
+        let said = said_by(&line[..kept]);
+        if may_change(said) {
+            let changed = perform(register, said, &line[..kept]);
+            kept = 0;
+            let after = changed.register;
+            register = after;
+            let seen = register.view();
+            view = seen;
+            let response = changed.response;
+            at = put_response(out, at, response);
+            continue;
+        }
+        kept = 0;
+        let shown = view.shown;
+        let response = answer(
+            shown,
+            &view.marks,
+            &view.uppers,
+            &view.lowers,
+            &view.means,
+            said,
+        );
+        at = put_response(out, at, response);
+    }
+    Served {
+        desk: Desk {
+            register,
+            line,
+            kept,
+        },
+        taken,
+        printed: at,
+    }
+}
