@@ -1,0 +1,405 @@
+/* The desk in plain C, by the same method, for comparison only: nothing proves this code. Calls come in as lines on standard input, replies go out as
+   lines on standard output; the replies to all lines that one read brought are written together, before the next read.
+   plain.c is taken in as text for its parts, so that it stays as the archive's checks are compared with it. */
+#define _POSIX_C_SOURCE 200809L
+#include "plain.c"
+
+#include <errno.h>
+#include <fcntl.h>
+#include <stdio.h>
+#include <string.h>
+#include <unistd.h>
+
+enum { PIECE = 65536, MOST_LINE = 300, MOST_PATH = 255, MOST_DIGITS = 9, MOST_WORDS = 4, MOST_ENTRIES = 1024 };
+enum { MODEL_BYTES = 10240, DELIVERY_BYTES = 17408 };
+enum { NO_MODEL = 40, MODEL_HELD, NO_DELIVERY, NO_BLOCK, NOT_OF_MODEL };
+
+/* The shortest line with a reply is 1 byte and its newline, answered by the 8 bytes of `unclear`; the longest reply has 37 bytes, to a line of 11. */
+enum { LONGEST_REPLY = 64, REPLY_ROOM = 4 * PIECE + LONGEST_REPLY };
+
+/* The register: what it holds of an accepted model and of a delivery accepted for it. */
+static struct {
+    bool has_model, has_delivery, lowers, means;
+    size_t model_len, states, symbols;
+    uint32_t margin;
+    uint8_t model[MODEL_BYTES + 1], live[MOST_ROWS];
+    uint32_t upper[MOST_ENTRIES], lower[MOST_ENTRIES], mean[MOST_ROWS];
+} held;
+
+static uint8_t input[PIECE], line[MOST_LINE + 1];
+static size_t line_len;
+static char replies[REPLY_ROOM];
+static size_t replies_len;
+
+/* A line's words: call and arguments, with one more than any call has. */
+struct word {
+    const uint8_t *bytes;
+    size_t len;
+};
+
+struct words {
+    struct word at[MOST_WORDS + 1];
+    size_t count;
+};
+
+/* Replies. */
+
+static void put_text(const char *text, size_t len)
+{
+    memcpy(replies + replies_len, text, len);
+    replies_len += len;
+}
+
+#define PUT(text) put_text(text, sizeof(text) - 1)
+
+static void put_number(uint64_t number)
+{
+    char digits[20];
+    size_t at = sizeof digits;
+    do
+        digits[--at] = (char)('0' + number % 10);
+    while ((number /= 10) > 0);
+    put_text(digits + at, sizeof digits - at);
+}
+
+static void reply_value(uint32_t number)
+{
+    PUT("value ");
+    put_number(number);
+    PUT("\n");
+}
+
+/* A shortfall is never above 0. */
+static void reply_refused(uint32_t number, uint32_t place, int64_t shortfall)
+{
+    PUT("refused ");
+    put_number(number);
+    PUT(" ");
+    put_number(place);
+    PUT(" ");
+    if (shortfall < 0)
+        PUT("-");
+    put_number(0 - (uint64_t)shortfall);
+    PUT("\n");
+}
+
+/* Files. */
+
+/* Up to `most` bytes of a file; one that is missing or cannot be read counts as empty, the latter with a warning. A FIFO without a writer is empty. */
+static size_t read_file(const struct word *name, uint8_t *bytes, size_t most)
+{
+    char path[MOST_PATH + 1];
+    size_t len = 0;
+    ssize_t got = 0;
+    memcpy(path, name->bytes, name->len);
+    path[name->len] = 0;
+    int file = open(path, O_RDONLY | O_NONBLOCK);
+    if (file >= 0)
+        while (len < most && (got = read(file, bytes + len, most - len)) > 0)
+            len += (size_t)got;
+    if ((file < 0 && errno != ENOENT) || got < 0) {
+        fprintf(stderr, "%s: %s\n", path, strerror(errno));
+        len = 0;
+    }
+    if (file >= 0)
+        close(file);
+    return len;
+}
+
+/* What is held of accepted files. */
+
+static void find_model(struct model *m)
+{
+    m->file = held.model;
+    m->records = held.model_len / RULE_BYTES;
+    find_sizes(m);
+    find_starts(m);
+}
+
+static void hold_model(size_t len)
+{
+    struct model m;
+    uint8_t marks[MOST_ROWS], next[MOST_ROWS];
+    held.model_len = len;
+    find_model(&m);
+    memcpy(held.live, live_marks(&m, marks, next), m.rows);
+    held.states = m.states;
+    held.symbols = m.symbols;
+    held.has_model = true;
+}
+
+/* The least share (u - f(u)) / u over the live entries, in 1,048,576ths, rounded down: u - f(u) counts 1/2^56, and u 1/2^20. */
+static uint32_t least_share(const struct model *m, const uint8_t *uppers)
+{
+    uint64_t least = SCALE;
+    size_t e = 0;
+    for (size_t row = 0; row < m->rows; row++)
+        for (size_t q = 0; q < m->states; q++, e++)
+            if (is_live(held.live, row, q)) {
+                uint64_t u = value(uppers, e), share = ((u << UNIT_SHIFT) - f(m, uppers, row, q)) / (u << (UNIT_SHIFT - 20));
+                least = share < least ? share : least;
+            }
+    return (uint32_t)least;
+}
+
+static void hold_values(uint32_t *numbers, const uint8_t *block, size_t count)
+{
+    for (size_t e = 0; e < count; e++)
+        numbers[e] = value(block, e);
+}
+
+/* Whether a delivery is held with the same uppers. */
+static bool has_same_uppers(const uint8_t *uppers, size_t entries)
+{
+    size_t e = 0;
+    while (held.has_delivery && e < entries && held.upper[e] == value(uppers, e))
+        e++;
+    return held.has_delivery && e == entries;
+}
+
+static void hold_delivery(const struct model *m, const uint8_t *delivery, size_t len)
+{
+    struct shape shape = find_shape(m, delivery, len);
+    size_t means_from = shape.lowers ? 2 * m->entries : m->entries;
+    hold_values(held.upper, delivery, m->entries);
+    if (shape.lowers) {
+        hold_values(held.lower, delivery + FIGURE_BYTES * m->entries, m->entries);
+        held.margin = least_share(m, delivery);
+    }
+    if (shape.means)
+        hold_values(held.mean, delivery + FIGURE_BYTES * means_from, m->rows);
+    held.lowers = shape.lowers;
+    held.means = shape.means;
+    held.has_delivery = true;
+}
+
+/* Calls. */
+
+static void clear(void)
+{
+    held.has_model = held.has_delivery = false;
+    PUT("cleared\n");
+}
+
+static void file_model(const struct word *path)
+{
+    struct model m;
+    if (held.has_model) {
+        reply_refused(MODEL_HELD, 0, 0);
+        return;
+    }
+    size_t len = read_file(path, held.model, MODEL_BYTES + 1);
+    struct outcome found = check_model(&m, held.model, len);
+    if (found.reason != ACCEPTED) {
+        reply_refused(found.reason, found.place, 0);
+        return;
+    }
+    hold_model(len);
+    PUT("accepted\n");
+}
+
+static void file_delivery(const struct word *path)
+{
+    static uint8_t delivery[DELIVERY_BYTES + 1];
+    struct model m;
+    if (!held.has_model) {
+        reply_refused(NO_MODEL, 0, 0);
+        return;
+    }
+    size_t len = read_file(path, delivery, DELIVERY_BYTES + 1);
+    struct outcome found = check_delivery(held.model, held.model_len, delivery, len);
+    if (found.reason != ACCEPTED) {
+        reply_refused(found.reason, found.place, found.shortfall);
+        return;
+    }
+    find_model(&m);
+    bool known = has_same_uppers(delivery, m.entries);
+    hold_delivery(&m, delivery, len);
+    if (known)
+        PUT("known\n");
+    else
+        PUT("new\n");
+}
+
+/* The reason for which a question gets no value, or 0: whether a delivery is needed, whether the place is of the model, whether the block stands. */
+static uint32_t question_reason(bool needs_delivery, bool is_place, bool stands)
+{
+    if (!held.has_model)
+        return NO_MODEL;
+    if (needs_delivery && !held.has_delivery)
+        return NO_DELIVERY;
+    if (!is_place)
+        return NOT_OF_MODEL;
+    return stands ? 0 : NO_BLOCK;
+}
+
+static bool is_row(uint32_t p, uint32_t z)
+{
+    return p < held.states && z < held.symbols;
+}
+
+static void ask_entry(const uint32_t *numbers, bool stands, uint32_t p, uint32_t z, uint32_t q)
+{
+    uint32_t reason = question_reason(true, is_row(p, z) && q < held.states, stands);
+    if (reason != 0)
+        reply_refused(reason, 0, 0);
+    else
+        reply_value(numbers[(p * held.symbols + z) * held.states + q]);
+}
+
+static void ask_steps(uint32_t p, uint32_t z)
+{
+    uint32_t reason = question_reason(true, is_row(p, z), held.means);
+    if (reason != 0)
+        reply_refused(reason, 0, 0);
+    else
+        reply_value(held.mean[p * held.symbols + z]);
+}
+
+static void ask_margin(void)
+{
+    uint32_t reason = question_reason(true, true, held.lowers);
+    if (reason != 0)
+        reply_refused(reason, 0, 0);
+    else
+        reply_value(held.margin);
+}
+
+static void ask_live(uint32_t p, uint32_t z, uint32_t q)
+{
+    uint32_t reason = question_reason(false, is_row(p, z) && q < held.states, true);
+    if (reason != 0)
+        reply_refused(reason, 0, 0);
+    else
+        reply_value(is_live(held.live, p * held.symbols + z, q));
+}
+
+/* Lines. */
+
+static bool has_control(const uint8_t *bytes, size_t len)
+{
+    for (size_t i = 0; i < len; i++)
+        if (bytes[i] < 32 || bytes[i] == 127)
+            return true;
+    return false;
+}
+
+/* What stands between single spaces; of more words than any call has, the first ones. */
+static void split(struct words *words, const uint8_t *bytes, size_t len)
+{
+    size_t from = 0;
+    words->count = 0;
+    for (size_t i = 0; i <= len && words->count <= MOST_WORDS; i++)
+        if (i == len || bytes[i] == ' ') {
+            words->at[words->count++] = (struct word){bytes + from, i - from};
+            from = i + 1;
+        }
+}
+
+static bool says(const struct word *word, const char *text)
+{
+    return word->len == strlen(text) && memcmp(word->bytes, text, word->len) == 0;
+}
+
+static bool is_path(const struct word *word)
+{
+    return word->len >= 1 && word->len <= MOST_PATH;
+}
+
+/* Whether the words after the first are `count` numbers, which are put into `numbers`. */
+static bool are_numbers(const struct words *words, uint32_t *numbers, size_t count)
+{
+    if (words->count != count + 1)
+        return false;
+    for (size_t k = 0; k < count; k++) {
+        const struct word *word = &words->at[k + 1];
+        if (word->len == 0 || word->len > MOST_DIGITS)
+            return false;
+        numbers[k] = 0;
+        for (size_t i = 0; i < word->len; i++) {
+            if (word->bytes[i] < '0' || word->bytes[i] > '9')
+                return false;
+            numbers[k] = 10 * numbers[k] + (word->bytes[i] - '0');
+        }
+    }
+    return true;
+}
+
+/* Answers the call that the words say; false where they say none. */
+static bool answer_call(const struct words *words)
+{
+    const struct word *name = &words->at[0], *path = &words->at[1];
+    uint32_t n[3];
+    if (says(name, "upper") && are_numbers(words, n, 3))
+        ask_entry(held.upper, true, n[0], n[1], n[2]);
+    else if (says(name, "lower") && are_numbers(words, n, 3))
+        ask_entry(held.lower, held.lowers, n[0], n[1], n[2]);
+    else if (says(name, "steps") && are_numbers(words, n, 2))
+        ask_steps(n[0], n[1]);
+    else if (says(name, "margin") && words->count == 1)
+        ask_margin();
+    else if (says(name, "live") && are_numbers(words, n, 3))
+        ask_live(n[0], n[1], n[2]);
+    else if (says(name, "clear") && words->count == 1)
+        clear();
+    else if (says(name, "model") && words->count == 2 && is_path(path))
+        file_model(path);
+    else if (says(name, "delivery") && words->count == 2 && is_path(path))
+        file_delivery(path);
+    else
+        return false;
+    return true;
+}
+
+/* Answers the line at hand, and starts the next. */
+static void answer_line(void)
+{
+    struct words words;
+    size_t len = line_len;
+    line_len = 0;
+    if (len == 0 || line[0] == '#')
+        return;
+    if (len <= MOST_LINE && !has_control(line, len)) {
+        split(&words, line, len);
+        if (answer_call(&words))
+            return;
+    }
+    PUT("unclear\n");
+}
+
+static void take_piece(const uint8_t *bytes, size_t len)
+{
+    for (size_t i = 0; i < len; i++)
+        if (bytes[i] == '\n')
+            answer_line();
+        else if (line_len <= MOST_LINE)
+            line[line_len++] = bytes[i];
+}
+
+static bool write_replies(void)
+{
+    size_t done = 0;
+    while (done < replies_len) {
+        ssize_t count = write(STDOUT_FILENO, replies + done, replies_len - done);
+        if (count < 0) {
+            fputs("desk: output not written\n", stderr);
+            return false;
+        }
+        done += (size_t)count;
+    }
+    replies_len = 0;
+    return true;
+}
+
+int main(void)
+{
+    ssize_t got;
+    while ((got = read(STDIN_FILENO, input, PIECE)) > 0) {
+        take_piece(input, (size_t)got);
+        if (!write_replies())
+            return 0;
+    }
+    answer_line();
+    write_replies();
+    return 0;
+}
