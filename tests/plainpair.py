@@ -1,0 +1,240 @@
+"""A desk around the plain pair of document 01: the last accepted model since the last clearing, and the last delivery accepted for it, as bytes.
+
+Reads calls as lines on standard input and prints the replies. Each method is one rule, so that tests/wrongdesks.py can change one at a time.
+"""
+import os
+import sys
+from functools import lru_cache
+
+import checker
+
+NO_MODEL, MODEL_HELD, NO_DELIVERY, NO_BLOCK, NOT_OF_MODEL = range(40, 45)
+MODEL_READ, DELIVERY_READ = 10241, 17409  # bytes read of a file: one more than any that can pass has
+LONGEST_LINE, LONGEST_PATH, MOST_DIGITS = 300, 255, 9
+ARGUMENTS = {b"clear": "", b"model": "f", b"delivery": "f", b"upper": "nnn", b"lower": "nnn", b"steps": "nn", b"margin": "", b"live": "nnn"}  # n: number, f: file
+
+
+class Refused(Exception):
+    """A refusal: its number, place and shortfall."""
+
+    def __init__(self, number, place=0, shortfall=0):
+        super().__init__(number, place, shortfall)
+
+
+@lru_cache(maxsize=4096)
+def verdict(model, delivery):
+    return checker.check_delivery(model, delivery)
+
+
+@lru_cache(maxsize=4096)
+def figures_of(model, delivery):
+    return checker.accepted_figures(model, delivery)
+
+
+@lru_cache(maxsize=4096)
+def margin_of(model, delivery):
+    return checker.margin(checker.table_of(model), figures_of(model, delivery).upper)
+
+
+def read_up_to(path, most):
+    file, data = os.open(path, os.O_RDONLY | os.O_NONBLOCK), b""
+    try:
+        while len(data) < most and (piece := os.read(file, most - len(data))):
+            data += piece
+    finally:
+        os.close(file)
+    return data
+
+
+def read_file(path, most):
+    """Up to `most` bytes of a file. One that is missing or cannot be read counts as empty, the latter with a warning; a FIFO without a writer is empty."""
+    try:
+        return read_up_to(path, most)
+    except OSError as error:
+        if not isinstance(error, FileNotFoundError):
+            sys.stderr.buffer.write(path + b": " + os.strerror(error.errno).encode() + b"\n")
+        return b""
+
+
+class PlainPair:
+    """Holds the two files, and answers each call with the words of its reply, or raises Refused."""
+
+    def __init__(self, read=read_file):
+        self.read, self.model, self.delivery = read, None, None
+
+    # Filings.
+
+    def clear(self):
+        self.model = self.delivery = None
+        return "cleared"
+
+    def file_model(self, path):
+        if self.model is not None:
+            raise Refused(MODEL_HELD)
+        model = self.read(path, MODEL_READ)
+        self.judge_model(model)
+        self.hold_model(model)
+        return "accepted"
+
+    def file_delivery(self, path):
+        if self.model is None:
+            raise Refused(NO_MODEL)
+        delivery = self.read(path, DELIVERY_READ)
+        self.judge_delivery(delivery)
+        mark = self.mark_of(delivery)
+        self.hold_delivery(delivery)
+        return mark
+
+    def judge_model(self, model):
+        number, place = checker.check_model(model)
+        if number:
+            raise Refused(number, place)
+
+    def judge_delivery(self, delivery):
+        refusal = verdict(self.model, delivery)
+        if refusal != checker.ACCEPTED:
+            raise Refused(*refusal)
+
+    def mark_of(self, delivery):
+        """Known if a delivery is held whose U block is the same."""
+        is_known = self.delivery is not None and self.uppers_in(self.delivery) == self.uppers_in(delivery)
+        return "known" if is_known else "new"
+
+    def uppers_in(self, delivery):
+        return delivery[:8 * len(self.table().entries)]
+
+    def hold_model(self, model):
+        self.model = model
+
+    def hold_delivery(self, delivery):
+        self.delivery = delivery
+
+    # Questions.
+
+    def table(self):
+        return checker.table_of(self.model)
+
+    def figures(self):
+        return figures_of(self.model, self.delivery)
+
+    def needs_model(self):
+        if self.model is None:
+            raise Refused(NO_MODEL)
+
+    def needs_delivery(self):
+        if self.delivery is None:
+            raise Refused(NO_DELIVERY)
+
+    def needs_place(self, p, z, q=0):
+        if not (p < self.table().states and z < self.table().symbols and q < self.table().states):
+            raise Refused(NOT_OF_MODEL)
+
+    def needs_block(self, block):
+        if block is None:
+            raise Refused(NO_BLOCK)
+
+    def upper(self, p, z, q):
+        self.needs_model()
+        self.needs_delivery()
+        self.needs_place(p, z, q)
+        return self.value(self.figures().upper[self.table().entry_at(p, z, q)])
+
+    def lower(self, p, z, q):
+        self.needs_model()
+        self.needs_delivery()
+        self.needs_place(p, z, q)
+        self.needs_block(self.figures().lower)
+        return self.value(self.figures().lower[self.table().entry_at(p, z, q)])
+
+    def steps(self, p, z):
+        self.needs_model()
+        self.needs_delivery()
+        self.needs_place(p, z)
+        self.needs_block(self.figures().mean)
+        return self.value(self.figures().mean[self.table().row_at(p, z)])
+
+    def margin(self):
+        self.needs_model()
+        self.needs_delivery()
+        self.needs_block(self.figures().lower)
+        return self.value(margin_of(self.model, self.delivery))
+
+    def live(self, p, z, q):
+        self.needs_model()
+        self.needs_place(p, z, q)
+        return self.value(int(self.table().is_live[self.table().entry_at(p, z, q)]))
+
+    def value(self, number):
+        return "value %d" % number
+
+
+class Desk(PlainPair):
+    """The lines around the pair."""
+
+    def lines_of(self, text):
+        """The lines of a whole input: what ends with a newline, and what is left at the end."""
+        *lines, rest = text.split(b"\n")
+        return lines + [rest] if rest else lines
+
+    def is_silent(self, line):
+        return not line or line.startswith(b"#")
+
+    def is_written_well(self, line):
+        return len(line) <= LONGEST_LINE and not any(byte < 32 or byte == 127 for byte in line)
+
+    def words_of(self, line):
+        return line.split(b" ")
+
+    def is_number(self, word):
+        return 1 <= len(word) <= MOST_DIGITS and all(48 <= byte <= 57 for byte in word)
+
+    def number(self, word):
+        return int(word)
+
+    def is_path(self, word):
+        return 1 <= len(word) <= LONGEST_PATH
+
+    def call_of(self, line):
+        """The call that a line says as (name, arguments), or None."""
+        if not self.is_written_well(line):
+            return None
+        name, *words = self.words_of(line)
+        kinds = ARGUMENTS.get(name)
+        if kinds is None or len(kinds) != len(words):
+            return None
+        if not all(self.is_path(word) if kind == "f" else self.is_number(word) for kind, word in zip(kinds, words)):
+            return None
+        return name, [word if kind == "f" else self.number(word) for kind, word in zip(kinds, words)]
+
+    def reply_to(self, name, arguments):
+        calls = {b"clear": self.clear, b"model": self.file_model, b"delivery": self.file_delivery, b"upper": self.upper, b"lower": self.lower,
+                 b"steps": self.steps, b"margin": self.margin, b"live": self.live}
+        try:
+            return calls[name](*arguments)
+        except Refused as refusal:
+            return "refused %d %d %d" % refusal.args
+
+    def unclear(self):
+        return "unclear"
+
+    def reply_to_line(self, line):
+        """The reply in words, or None where there is none."""
+        if self.is_silent(line):
+            return None
+        call = self.call_of(line)
+        return self.unclear() if call is None else self.reply_to(*call)
+
+    def replies(self, text):
+        """The replies to each line of a whole input, without those lines that get none."""
+        return [reply for reply in map(self.reply_to_line, self.lines_of(text)) if reply is not None]
+
+
+def main():
+    desk = Desk()
+    for line in sys.stdin.buffer:
+        for reply in desk.replies(line):
+            print(reply, flush=True)
+
+
+if __name__ == "__main__":
+    main()

@@ -1,0 +1,374 @@
+"""Runs the desk on random scripts of calls over folders of files, and compares every reply and every warning with the plain pair in tests/plainpair.py."""
+import argparse
+import os
+import posixpath
+import random
+import subprocess
+import sys
+import tempfile
+import time
+from collections import Counter
+from pathlib import Path
+
+import checker
+import generate
+import plainpair
+
+SCRIPTS_OF_A_FOLDER = 8
+LINES = (5, 60)  # of a script, the fewest and the most
+ENOUGH = 1000  # scripts from which on every kind has to occur
+FEWEST = 5  # times, at least, that every reason and every kind of line must then occur
+MOST_SHOWN = 5  # mismatches shown before giving up
+REASONS = (*range(10, 16), *range(20, 28), *range(40, 45))
+REPLIES = ("cleared", "accepted", "known", "new", "value", "refused", "unclear", "none")
+FILED = tuple("%s %s" % (mark, shape) for mark in ("known", "new") for shape in checker.SHAPES)
+CONTROLS = bytes([*range(10), *range(11, 32), 127])  # all but the newline
+SHARED_MEMORY = Path("/dev/shm")
+
+
+# Folders of files.
+
+class Folder:
+    """Files by name: the accepted models, with the deliveries made for each and the accepted ones among these, and other files."""
+
+    def __init__(self, cases):
+        self.files, self.names, self.directories = {}, {}, {b"folder", b"sub"}
+        self.models, self.others, self.deliveries, self.certificates = [], [], {}, {}
+        for model, delivery in cases:
+            self.add_case(model, delivery)
+        self.others += [self.name_of(data) for data in (b"", bytes(20480), generate.largest_model() + b"\0", bytes(40960))]
+
+    def name_of(self, data):
+        """The name of the file with these bytes, a new one if there is none."""
+        if data not in self.names:
+            name = new_name(len(self.files))
+            self.files[name], self.names[data] = data, name
+        return self.names[data]
+
+    def add_case(self, model, delivery):
+        name, is_accepted = self.name_of(model), checker.check_model(model) == (0, 0)
+        group = self.models if is_accepted else self.others
+        if name not in group:
+            group.append(name)
+        if is_accepted:
+            self.deliveries.setdefault(name, []).append(self.name_of(delivery))
+        if checker.check_delivery(model, delivery) == checker.ACCEPTED:
+            self.certificates.setdefault(name, []).append(self.name_of(delivery))
+
+    def table(self, model):
+        return checker.table_of(self.files[model])
+
+    def write(self, root):
+        for directory in self.directories:
+            os.mkdir(os.path.join(root, directory))
+        for name, data in self.files.items():
+            with open(os.path.join(root, name), "wb") as file:
+                file.write(data)
+
+    def reader(self, warnings):
+        """Reads files as the system would; a warning for a directory is added to the list."""
+        def read(path, most):
+            if posixpath.normpath(path) in self.directories | {b"."}:
+                warnings.append(path + b": Is a directory\n")
+            return self.files.get(posixpath.normpath(path), b"")[:most]
+        return read
+
+
+def new_name(number):
+    """The name of a folder's file by its number: plain, in UTF-8, in bytes that are no text, in a folder, with signs, of 255 bytes."""
+    forms = (b"%d", b"%d.tab", "modèle-%d.tab".encode(), "表%d".encode(), b"\x80\xff%d\xfe", b"sub/%d", b"#%d", b"-%d", b"'%d$(x)\"\\", b"%d" + b"n" * 252)
+    name = forms[number % len(forms)] % number
+    return name[:plainpair.LONGEST_PATH]
+
+
+def chosen_cases(cases, most_of_a_kind):
+    """Of cases (label, model, delivery) at most so many for each reason and each accepted shape, as pairs of files."""
+    kinds, chosen = Counter(), []
+    for _, model, delivery in cases:
+        number = checker.check_delivery(model, delivery)[0]
+        kind = number or checker.shape_of(checker.table_of(model), delivery)
+        kinds[kind] += 1
+        if kinds[kind] <= most_of_a_kind:
+            chosen.append((model, delivery))
+    return chosen
+
+
+def far_cases():
+    """The largest files, and files that would pass if their end were not read."""
+    model, delivery = generate.largest_model(), generate.largest_certificate()
+    yield from generate.far_ends()
+    yield "a record more", model, delivery + delivery[-8:]
+    yield "a byte more", model, delivery + b"U"
+    yield "a rule more", model + model[-10:], delivery
+
+
+def make_folder(rng, number):
+    """Folder 0 has the edges of document 01, folder 1 the far ends, each other one two models with deliveries and changes of them."""
+    if number == 0:
+        return Folder((model, delivery) for _, model, delivery, _ in generate.documented_edges())
+    if number == 1:
+        return Folder((model, delivery) for _, model, delivery in far_cases())
+    cases = [case for _ in range(2) for case in generate.family(rng)]
+    return Folder(chosen_cases(cases, 4))
+
+
+# Calls.
+
+def written(rng, number):
+    """A number in digits, now and then with leading zeros."""
+    zeros = rng.choice((0,) * 8 + (1, 9))
+    return (b"%d" % number).rjust(min(9, len(str(number)) + zeros), b"0")
+
+
+def coordinate(rng, bound):
+    """A number below the bound, or now and then another: just not below it, or one that is below it by its last digits or its low bits."""
+    number = rng.randrange(bound)
+    if rng.randrange(16) == 0:
+        number = rng.choice((bound, bound + 1, 7, 8, 15, 16, 255, 999999999, 10 + number, 256 + number, 65536 + number, 2**24 + number, 900000000 + number))
+    return written(rng, number)
+
+
+def question(rng, folder, theme):
+    table, name = folder.table(theme), rng.choice((b"upper", b"lower", b"steps", b"margin", b"live"))
+    bounds = {b"margin": (), b"steps": (table.states, table.symbols)}.get(name, (table.states, table.symbols, table.states))
+    return b" ".join([name] + [coordinate(rng, bound) for bound in bounds])
+
+
+def path_of(rng, name):
+    """The name, now and then by a longer way; of 255 bytes, at the most."""
+    way = rng.choice((b"",) * 6 + (b"./", b"sub/../", b"./" * ((plainpair.LONGEST_PATH - len(name)) // 2)))
+    return way + name if len(way + name) <= plainpair.LONGEST_PATH else name
+
+
+def filing(rng, folder, theme):
+    """A model or a delivery: mostly of the theme's model, else of another, or a file that is missing or none."""
+    absent, lot = [b"gone", b"folder", b"gone/1", b".", "fehlt-ü".encode()], rng.randrange(100)
+    if rng.randrange(10) < 3:
+        name = theme if lot < 60 else rng.choice(folder.models if lot < 70 else folder.others if lot < 90 else absent)
+        return b"model " + path_of(rng, name)
+    accepted, made = folder.certificates.get(theme), folder.deliveries[theme]
+    names = accepted if accepted and lot < 50 else made if lot < 88 else [*folder.files, *absent]
+    return b"delivery " + path_of(rng, rng.choice(names))
+
+
+def call(rng, folder, theme):
+    lot = rng.randrange(100)
+    if lot < 4:
+        return b"clear"
+    return question(rng, folder, theme) if lot < 64 else filing(rng, folder, theme)
+
+
+# Lines that are no call. Each takes (rng, a call) and hands back a line.
+
+def put_in(rng, line, piece):
+    at = rng.randint(0, len(line))
+    return line[:at] + piece + line[at:]
+
+
+def with_word(rng, line, word):
+    """The line with one of the words after its call's name replaced; a question with such a word where it has none."""
+    words = line.split(b" ")
+    if len(words) < 2 or words[0] in (b"model", b"delivery"):
+        words = [b"upper", b"0", b"0", b"0"]
+    words[rng.randrange(1, len(words))] = word
+    return b" ".join(words)
+
+
+def upper_case(rng, line):
+    name, space, rest = line.partition(b" ")
+    at = rng.randrange(len(name))
+    return name[:at] + name[at:at + 1].upper() + name[at + 1:] + space + rest
+
+
+def high_byte(rng, line):
+    """A byte from 128 on in the call's name or in a number."""
+    byte = bytes([rng.randrange(128, 256)])
+    return rng.choice((byte + line, with_word(rng, line, b"1" + byte), with_word(rng, line, "٣".encode())))
+
+
+def too_few_words(rng, line):
+    return line.rpartition(b" ")[0] or rng.choice((b"model", b"delivery", b"upper", b"live 0 0", b"steps 0"))
+
+
+def double_space(rng, line):
+    return line.replace(b" ", b"  ", 1) if b" " in line else line + b"  0"
+
+
+def path_too_long(rng, line):
+    return rng.choice((b"model ", b"delivery ")) + b"./" * 127 + b"./"[:1] + rng.choice((b"n", b"1"))
+
+
+def filled(length):
+    """A line of so many bytes."""
+    return lambda rng, line: line + rng.choice((b" ", b"0", b"x", b"/")) * (length - len(line))
+
+
+UNCLEAR = {
+    "301 bytes": filled(301),
+    "exactly 300 bytes": filled(300),
+    "a control byte": lambda rng, line: put_in(rng, line, bytes([rng.choice(CONTROLS)])),
+    "a control byte in a path": lambda rng, line: put_in(rng, rng.choice((b"model ", b"delivery ")) + b"1", bytes([rng.choice(CONTROLS)])),
+    "a tab for a space": lambda rng, line: line.replace(b" ", b"\t") if b" " in line else b"upper\t0 0 0",
+    "a carriage return": lambda rng, line: line + b"\r",
+    "a NUL": lambda rng, line: line + b"\0",
+    "byte 127": lambda rng, line: put_in(rng, line, b"\x7f"),
+    "a byte from 128 on": high_byte,
+    "two spaces": double_space,
+    "a space before": lambda rng, line: b" " + line,
+    "a space after": lambda rng, line: line + b" ",
+    "spaces alone": lambda rng, line: b" " * rng.randint(1, 4),
+    "ten digits": lambda rng, line: with_word(rng, line, b"0000000000"),
+    "no number": lambda rng, line: with_word(rng, line, rng.choice((b"-1", b"+0", b"1a", b"0x0", b"0.0", b"1_0", b"/", b":", b"", b"x", b"0,"))),
+    "upper case": upper_case,
+    "too few words": too_few_words,
+    "too many words": lambda rng, line: line + b" 0" * rng.randint(1, 3),
+    "no path": lambda rng, line: rng.choice((b"model ", b"delivery ")),
+    "a path of 256 bytes": path_too_long,
+    "another word": lambda rng, line: rng.choice((b"value 3", b"known", b"uppers 0 0 0", b"uppe 0 0 0", b"help", b"quit", b"cleared", b"clea", b"0", b"models 1")),
+    "a space before #": lambda rng, line: b" # " + line,
+}
+SILENT = {
+    "empty": lambda rng, line: b"",
+    "# alone": lambda rng, line: b"#",
+    "# before a call": lambda rng, line: b"#" + line,
+    "# and any bytes": lambda rng, line: b"#" + rng.randbytes(rng.randrange(40)).replace(b"\n", b"\r"),
+    "# and 1,000 bytes": lambda rng, line: b"#" + (line + b" ").ljust(rng.choice((299, 300, 301, 1000)), b"c"),
+}
+
+
+# Scripts.
+
+def opening(rng, folder, theme):
+    """What follows a clearing: now and then models that are refused, then mostly the theme's model, and a delivery for it."""
+    refused = [b"model " + rng.choice(folder.others) for _ in range(rng.choice((0, 0, 0, 1, 2)))]
+    filed = [b"model " + theme, b"delivery " + rng.choice(folder.certificates.get(theme, folder.deliveries[theme]))]
+    return refused + filed[:rng.choice((0, 1, 1, 2, 2))]
+
+
+def make_script(rng, folder):
+    """(a script's bytes, the kinds of its lines that are no call, by the line's number)."""
+    theme, kinds, due = rng.choice(folder.models), {}, rng.randint(*LINES)
+    lines = opening(rng, folder, theme)
+    while len(lines) < due:
+        line, lot = call(rng, folder, theme), rng.randrange(100)
+        if lot < 16:
+            kind, spoil = rng.choice(sorted((UNCLEAR if lot < 12 else SILENT).items()))
+            line, kinds[len(lines)] = spoil(rng, line), kind
+        lines.append(line)
+        if line == b"clear":
+            theme = rng.choice(folder.models)
+            lines += opening(rng, folder, theme)
+    return b"\n".join(lines[:due]) + b"\n" * (rng.randrange(4) > 0), kinds
+
+
+def folders_of_scripts(seed, count):
+    """`count` scripts as (folder, its scripts with their kinds), folder after folder."""
+    rng, made = random.Random(seed), 0
+    while made < count:
+        folder = make_folder(rng, made // SCRIPTS_OF_A_FOLDER)
+        scripts = [make_script(rng, folder) for _ in range(min(SCRIPTS_OF_A_FOLDER, count - made))]
+        made += len(scripts)
+        yield folder, scripts
+
+
+# The comparison.
+
+def expected(folder, script):
+    """(lines with their replies, None for no reply; the warnings)."""
+    warnings = []
+    desk = plainpair.Desk(folder.reader(warnings))
+    return [(line, desk.reply_to_line(line)) for line in desk.lines_of(script)], b"".join(warnings)
+
+
+def shapes_filed(folder, script):
+    """The marks of the deliveries that a script files, each with the shape then held."""
+    desk = plainpair.Desk(folder.reader([]))
+    for line in desk.lines_of(script):
+        reply = desk.reply_to_line(line)
+        if reply in ("known", "new"):
+            yield "%s %s" % (reply, checker.shape_of(desk.table(), desk.delivery))
+
+
+def printed(answered):
+    return "".join(reply + "\n" for _, reply in answered if reply is not None).encode()
+
+
+def show_mismatch(script_name, answered, got, warnings, got_warnings):
+    """The first reply that differs, with the line that asked for it and the lines before."""
+    print("MISMATCH in %s" % script_name)
+    replies, asked = got.decode("latin-1").split("\n"), [pair for pair in answered if pair[1] is not None]
+    wrong = next((at for at, (_, reply) in enumerate(asked) if at >= len(replies) or replies[at] != reply), len(asked))
+    for at in range(max(0, wrong - 8), min(wrong + 1, len(asked))):
+        print("  %r -> %r, got %r" % (asked[at][0][:120], asked[at][1], replies[at] if at < len(replies) else None))
+    print("  replies: %d, got %d" % (len(asked), len(replies) - 1))
+    if warnings != got_warnings:
+        print("  warnings: %r, got %r" % (warnings[-300:], got_warnings[-300:]))
+
+
+def agrees(program, root, script_name, script, answered, warnings):
+    done = subprocess.run([program], cwd=root, input=script, capture_output=True, timeout=60)
+    if (done.stdout, done.stderr, done.returncode) == (printed(answered), warnings, 0):
+        return True
+    show_mismatch(script_name, answered, done.stdout, warnings, done.stderr)
+    return False
+
+
+def count_kinds(kinds, answered, line_kinds):
+    """Counts replies and reasons, and lines that are no call, which the pair must have found to be none."""
+    for _, reply in answered:
+        word, number = ("none", None) if reply is None else (reply + " 0").split()[:2]
+        kinds[word] += 1
+        if word == "refused":
+            kinds[int(number)] += 1
+    for at, kind in line_kinds.items():
+        if at < len(answered) and answered[at][1] != ("unclear" if kind in UNCLEAR else None):
+            sys.exit("the plain pair replies %r to %r, which has %s" % (*reversed(answered[at]), kind))
+    kinds.update(line_kinds.values())
+
+
+def compare_folder(program, number, folder, scripts, kinds):
+    """How many scripts of a folder disagree: each by itself, and all of them in one input."""
+    wrong = 0
+    with tempfile.TemporaryDirectory(dir=SHARED_MEMORY if SHARED_MEMORY.is_dir() else None) as root:
+        folder.write(os.fsencode(root))
+        for at, (script, line_kinds) in enumerate(scripts):
+            answered, warnings = expected(folder, script)
+            count_kinds(kinds, answered, line_kinds)
+            kinds.update(shapes_filed(folder, script))
+            wrong += not agrees(program, root, "folder %d, script %d" % (number, at), script, answered, warnings)
+        joined = b"\n".join(script for script, _ in scripts)
+        wrong += not agrees(program, root, "folder %d, all scripts" % number, joined, *expected(folder, joined))
+    return wrong
+
+
+def show_kinds(kinds, count):
+    """Prints how often each kind occurred; exits when one is too rare, if there were enough scripts for it."""
+    due = [*REASONS, *REPLIES, *FILED, *UNCLEAR, *SILENT]
+    print("; ".join("%s: %d" % (kind, kinds[kind]) for kind in due))
+    rare = [kind for kind in due if kinds[kind] < FEWEST]
+    if count < ENOUGH:
+        print("skipped: that every kind occurs needs %d scripts" % ENOUGH)
+    elif rare:
+        sys.exit("fewer than %d: %s" % (FEWEST, rare))
+
+
+def main():
+    options = argparse.ArgumentParser(description=__doc__)
+    options.add_argument("--seed", type=int, default=1)
+    options.add_argument("--count", type=int, default=2000, help="scripts")
+    options.add_argument("--program", required=True, help="the desk program")
+    options, start = options.parse_args(), time.monotonic_ns()
+    program, kinds, wrong, replies = str(Path(options.program).resolve()), Counter(), 0, 0
+    for number, (folder, scripts) in enumerate(folders_of_scripts(options.seed, options.count)):
+        wrong += compare_folder(program, number, folder, scripts, kinds)
+        if wrong >= MOST_SHOWN:
+            break
+    if wrong:
+        sys.exit(1)
+    show_kinds(kinds, options.count)
+    replies = sum(kinds[reply] for reply in REPLIES[:-1])
+    print("desk: %d scripts, %d replies agree in %d s" % (options.count, replies, (time.monotonic_ns() - start) // 10**9))
+
+
+if __name__ == "__main__":
+    main()
