@@ -59,10 +59,13 @@ def read_file(path, most):
 class PlainPair:
     """Holds the two files, and answers each call with the words of its reply, or raises Refused."""
 
-    def __init__(self, read=read_file):
-        self.read, self.model, self.delivery = read, None, None
+    def __init__(self, files=read_file):
+        self.files, self.model, self.delivery = files, None, None
 
     # Filings.
+
+    def read(self, path, most):
+        return self.files(path, most)
 
     def clear(self):
         self.model = self.delivery = None

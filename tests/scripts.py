@@ -147,7 +147,7 @@ def filing(rng, folder, theme):
         name = theme if lot < 60 else rng.choice(folder.models if lot < 70 else folder.others if lot < 90 else absent)
         return b"model " + path_of(rng, name)
     accepted, made = folder.certificates.get(theme), folder.deliveries[theme]
-    names = accepted if accepted and lot < 50 else made if lot < 88 else [*folder.files, *absent]
+    names = accepted if accepted and lot < 50 else made if lot < 82 else list(folder.files) if lot < 90 else absent
     return b"delivery " + path_of(rng, rng.choice(names))
 
 
@@ -211,7 +211,7 @@ UNCLEAR = {
     "a tab for a space": lambda rng, line: line.replace(b" ", b"\t") if b" " in line else b"upper\t0 0 0",
     "a carriage return": lambda rng, line: line + b"\r",
     "a NUL": lambda rng, line: line + b"\0",
-    "byte 127": lambda rng, line: put_in(rng, line, b"\x7f"),
+    "byte 127": lambda rng, line: put_in(rng, rng.choice((line, b"model 1", b"delivery 1")), b"\x7f"),
     "a byte from 128 on": high_byte,
     "two spaces": double_space,
     "a space before": lambda rng, line: b" " + line,

@@ -1,0 +1,347 @@
+"""Shows that the scripts of tests/scripts.py are sharp: each wrong desk below must reply otherwise than the right one in some of them."""
+import argparse
+import itertools
+import struct
+import sys
+
+import checker
+import plainpair
+import scripts
+from plainpair import Desk, Refused
+
+SCRIPTS = 200  # the first of the default scripts
+
+
+def wrong(**methods):
+    """The desk with some of its methods replaced."""
+    return type("WrongDesk", (Desk,), methods)
+
+
+def refuses(number):
+    """A judgement that refuses every file by this number, if it is not refused anyway."""
+    def judge(right):
+        def judged(self, file):
+            right(self, file)
+            raise Refused(number)
+        return judged
+    return judge
+
+
+# The register.
+
+def first_checked_only(self, delivery):
+    if self.delivery is None:
+        Desk.judge_delivery(self, delivery)
+
+
+def invented_margin(self):
+    Desk.margin(self)
+    return self.value(45876)
+
+
+def always_42(self):
+    raise Refused(plainpair.NO_DELIVERY)
+
+
+def model_read_first(self, path):
+    self.judge_model(self.read(path, plainpair.MODEL_READ))
+    return Desk.file_model(self, path)
+
+
+def delivery_read_first(self, path):
+    if not self.read(path, plainpair.DELIVERY_READ):
+        raise Refused(checker.DELIVERY_LENGTH)
+    return Desk.file_delivery(self, path)
+
+
+def lower_block_first(self, p, z, q):
+    if self.delivery is not None:
+        self.needs_block(self.figures().lower)
+    return Desk.lower(self, p, z, q)
+
+
+def steps_block_first(self, p, z):
+    if self.delivery is not None:
+        self.needs_block(self.figures().mean)
+    return Desk.steps(self, p, z)
+
+
+def upper_place_first(self, p, z, q):
+    if self.model is not None:
+        self.needs_place(p, z, q)
+    return Desk.upper(self, p, z, q)
+
+
+def delivery_before_model(self):
+    self.needs_delivery()
+    Desk.needs_model(self)
+
+
+def refused_drops(self, delivery):
+    try:
+        Desk.judge_delivery(self, delivery)
+    except Refused:
+        self.delivery = None
+        raise
+
+
+def over_a_held_one(self, path):
+    model = self.read(path, plainpair.MODEL_READ)
+    self.judge_model(model)
+    self.model, self.delivery = model, None
+    return "accepted"
+
+
+def keeps_former(self, delivery):
+    if self.delivery is None:
+        self.delivery = delivery
+
+
+def clear_keeps_delivery(self):
+    self.model = None
+    return "cleared"
+
+
+def clear_keeps_model(self):
+    self.delivery = None
+    return "cleared"
+
+
+def clear_refused_when_empty(self):
+    self.needs_model()
+    return Desk.clear(self)
+
+
+def filed_again_clears(self, path):
+    if self.model is not None:
+        self.clear()
+        raise Refused(plainpair.MODEL_HELD)
+    return Desk.file_model(self, path)
+
+
+def known_by_any(self, delivery):
+    """Known if any delivery since the start had the same uppers."""
+    seen = self.__dict__.setdefault("seen", set())
+    mark = "known" if self.uppers_in(delivery) in seen else "new"
+    seen.add(self.uppers_in(delivery))
+    return mark
+
+
+def known_if_any_held(self, delivery):
+    return "new" if self.delivery is None else "known"
+
+
+def live_needs_delivery(self, p, z, q):
+    self.needs_model()
+    self.needs_delivery()
+    return Desk.live(self, p, z, q)
+
+
+def margin_of_any_shape(self):
+    self.needs_model()
+    self.needs_delivery()
+    return self.value(plainpair.margin_of(self.model, self.delivery))
+
+
+def states_for_symbols(self, p, z, q=0):
+    Desk.needs_place(self, p, z, q)
+    if z >= self.table().states:
+        raise Refused(plainpair.NOT_OF_MODEL)
+
+
+def place_without_exit(self, p, z, q=0):
+    """Leaves the exit unchecked, and takes what stands at the place that it leads to, if there is any."""
+    Desk.needs_place(self, p, z)
+    if self.table().entry_at(p, z, q) >= len(self.table().entries):
+        raise Refused(plainpair.NOT_OF_MODEL)
+
+
+def refusal_cut(**zeros):
+    """A reply without a refusal's place or shortfall."""
+    def reply_to(self, name, arguments):
+        words = Desk.reply_to(self, name, arguments).split()
+        if words[0] == "refused":
+            words[2], words[3] = zeros.get("place", words[2]), zeros.get("shortfall", words[3])
+        return " ".join(words)
+    return reply_to
+
+
+def read_one_byte_less(self, path, most):
+    return self.files(path, most - 1)
+
+
+# The lines.
+
+def call_before(self, line):
+    """Replies what the call before should have got."""
+    reply = Desk.reply_to_line(self, line)
+    if reply is None:
+        return None
+    before, self.before = self.__dict__.get("before", "cleared"), reply
+    return before
+
+
+def unclear_clears(self):
+    self.clear()
+    return "unclear"
+
+
+def pieces_of(line):
+    """The line in pieces of 300 bytes."""
+    return [line[at:at + plainpair.LONGEST_LINE] for at in range(0, max(1, len(line)), plainpair.LONGEST_LINE)]
+
+
+def long_lines_cut(comments):
+    """Takes what is left of a long line, or of a long comment, for further lines."""
+    def lines_of(self, text):
+        lines = Desk.lines_of(self, text)
+        return [piece for line in lines for piece in (pieces_of(line) if line.startswith(b"#") == comments else [line])]
+    return lines_of
+
+
+def without_return(self, line):
+    return Desk.reply_to_line(self, line.removesuffix(b"\r"))
+
+
+def first_words(self, line):
+    """Leaves out words beyond those that the call has."""
+    words = line.split(b" ")
+    return words[:1 + len(plainpair.ARGUMENTS.get(words[0], line))]
+
+
+def name_in_lower_case(self, line):
+    name, *rest = line.split(b" ")
+    return [name.lower(), *rest]
+
+
+def missing_unclear(self, path, most):
+    data = self.files(path, most)
+    if not data:
+        raise LookupError
+    return data
+
+
+def reply_or_unclear(self, name, arguments):
+    try:
+        return Desk.reply_to(self, name, arguments)
+    except LookupError:
+        return "unclear"
+
+
+def well_written(allows):
+    """Lines of at most 300 bytes, each of which passes the test."""
+    return wrong(is_written_well=lambda self, line: len(line) <= plainpair.LONGEST_LINE and all(map(allows, line)))
+
+
+def digits(least, most, starts=b"0123456789"):
+    return wrong(is_number=lambda self, word: least <= len(word) <= most and word.isdigit() and word[:1] in starts)
+
+
+WRONG = {
+    "condition 3: takes no model": wrong(judge_model=refuses(10)(Desk.judge_model)),
+    "condition 3: takes no delivery": wrong(judge_delivery=refuses(20)(Desk.judge_delivery)),
+    "condition 3: takes every delivery": wrong(judge_delivery=lambda self, delivery: None),
+    "condition 3: files nothing while reporting success": wrong(hold_model=lambda self, file: None, hold_delivery=lambda self, file: None),
+    "condition 3: checks the first delivery and waves later ones through": wrong(judge_delivery=first_checked_only),
+    "condition 3: prints an invented margin": wrong(margin=invented_margin),
+    "condition 3: answers 42 with a delivery held": wrong(needs_delivery=always_42),
+    "files no delivery while reporting success": wrong(hold_delivery=lambda self, file: None),
+    "an accepted delivery does not replace the former": wrong(hold_delivery=keeps_former),
+    "a model file read before 41": wrong(file_model=model_read_first),
+    "a delivery file read before 40": wrong(file_delivery=delivery_read_first),
+    "43 before 44 for a lower": wrong(lower=lower_block_first),
+    "43 before 44 for mean steps": wrong(steps=steps_block_first),
+    "44 before 42": wrong(upper=upper_place_first),
+    "42 before 40": wrong(needs_model=delivery_before_model),
+    "a refused delivery drops the held one": wrong(judge_delivery=refused_drops),
+    "a model accepted over a held one": wrong(file_model=over_a_held_one),
+    "41 clears": wrong(file_model=filed_again_clears),
+    "clear keeps the delivery": wrong(clear=clear_keeps_delivery),
+    "clear keeps the model": wrong(clear=clear_keeps_model),
+    "clear refused when empty": wrong(clear=clear_refused_when_empty),
+    "known for new": wrong(mark_of=lambda self, delivery: "known"),
+    "new for known": wrong(mark_of=lambda self, delivery: "new"),
+    "known by the whole file": wrong(uppers_in=lambda self, delivery: delivery),
+    "known by the first upper": wrong(uppers_in=lambda self, delivery: delivery[:8]),
+    "known by a delivery that is held no more": wrong(mark_of=known_by_any),
+    "known if any delivery is held": wrong(mark_of=known_if_any_held),
+    "a live mark needs a delivery": wrong(live=live_needs_delivery),
+    "a margin without lowers": wrong(margin=margin_of_any_shape),
+    "the lower for the upper": wrong(upper=Desk.lower),
+    "the exit taken for the state": wrong(upper=lambda self, p, z, q: Desk.upper(self, q, z, p)),
+    "symbols counted as states": wrong(needs_place=states_for_symbols),
+    "the exit not held to the states": wrong(needs_place=place_without_exit),
+    "the shortfall left out": wrong(reply_to=refusal_cut(shortfall="0")),
+    "the place left out": wrong(reply_to=refusal_cut(place="0")),
+    "a byte less read of files": wrong(read=read_one_byte_less),
+    "a missing file is unclear": wrong(read=missing_unclear, reply_to=reply_or_unclear),
+    "a reply to the call before": wrong(reply_to_line=call_before),
+    "an unclear line clears": wrong(unclear=unclear_clears),
+    "an unclear line gets no reply": wrong(unclear=lambda self: None),
+    "a comment is answered": wrong(is_silent=lambda self, line: not line),
+    "an empty line is answered": wrong(is_silent=lambda self, line: line.startswith(b"#")),
+    "a line that starts with a space and # is silent": wrong(is_silent=lambda self, line: not line or line.lstrip().startswith(b"#")),
+    "a last line without newline is left out": wrong(lines_of=lambda self, text: text.split(b"\n")[:-1]),
+    "a long line is answered in pieces": wrong(lines_of=long_lines_cut(False)),
+    "a long comment is answered in pieces": wrong(lines_of=long_lines_cut(True)),
+    "a carriage return left out": wrong(reply_to_line=without_return),
+    "a number read as its last digit": wrong(number=lambda self, word: int(word[-1:])),
+    "a number read as its first digit": wrong(number=lambda self, word: int(word[:1])),
+    "numbers of 8 bits": wrong(number=lambda self, word: int(word) % 256),
+    "numbers of 16 bits": wrong(number=lambda self, word: int(word) % 65536),
+    "ten digits taken": digits(1, 10),
+    "nine digits refused": digits(1, 8),
+    "leading zeros refused": wrong(is_number=lambda self, word: Desk.is_number(self, word) and (word[:1] != b"0" or word == b"0")),
+    "signs and underscores taken": wrong(is_number=lambda self, word: word.strip(b"+-").replace(b"_", b"").isdigit(), number=lambda self, word: abs(int(word))),
+    "several spaces taken for one": wrong(words_of=lambda self, line: line.split() or [b""]),
+    "a space after taken": wrong(words_of=lambda self, line: line.removesuffix(b" ").split(b" ")),
+    "words too many left out": wrong(words_of=first_words),
+    "upper case taken": wrong(words_of=name_in_lower_case),
+    "an empty path taken": wrong(is_path=lambda self, word: len(word) <= plainpair.LONGEST_PATH),
+    "a path of 256 bytes taken": wrong(is_path=lambda self, word: 1 <= len(word) <= 256),
+    "a path of 255 bytes refused": wrong(is_path=lambda self, word: 1 <= len(word) <= 254),
+    "bytes from 128 on refused": well_written(lambda byte: 32 <= byte < 127),
+    "control bytes taken": well_written(lambda byte: byte != 127),
+    "byte 127 taken": well_written(lambda byte: byte >= 32),
+    "a line of 264 bytes refused": wrong(is_written_well=lambda self, line: Desk.is_written_well(self, line) and len(line) < 264),
+}
+
+
+def is_noticed(kind, folder, script, right):
+    """Whether a desk's replies to a script differ from the right ones; up to the line where a wrong one cannot go on."""
+    desk, replies, whole = kind(folder.reader([])), [], True
+    try:
+        for line in desk.lines_of(script):
+            replies.append(desk.reply_to_line(line))
+    except (LookupError, TypeError, ValueError, ZeroDivisionError, struct.error):
+        whole = False
+    replies = [reply for reply in replies if reply is not None]
+    return replies != (right if whole else right[:len(replies)])
+
+
+def noticing(cases):
+    """For each wrong desk, how many scripts notice it."""
+    noticed = dict.fromkeys(WRONG, 0)
+    for folder, script in cases:
+        right = Desk(folder.reader([])).replies(script)
+        for name, kind in WRONG.items():
+            noticed[name] += is_noticed(kind, folder, script, right)
+    return noticed
+
+
+def main():
+    options = argparse.ArgumentParser(description=__doc__)
+    options.add_argument("--seed", type=int, default=1)
+    options = options.parse_args()
+    folders = scripts.folders_of_scripts(options.seed, SCRIPTS)
+    noticed = noticing(itertools.chain.from_iterable(((folder, script) for script, _ in made) for folder, made in folders))
+    for name, count in noticed.items():
+        print("%-72s %s" % (name, "%d scripts" % count if count else "NOT NOTICED"))
+    missed = [name for name, count in noticed.items() if not count]
+    least = min(noticed, key=noticed.get)
+    print("%d of %d wrong desks noticed by %d scripts; the least by %d: %s" % (len(WRONG) - len(missed), len(WRONG), SCRIPTS, noticed[least], least))
+    sys.exit(1 if missed else 0)
+
+
+if __name__ == "__main__":
+    main()
