@@ -1,0 +1,304 @@
+"""Drives the desk by pieces of input of any size, a line at a time as a person does, with long lines, every byte, and files that change between calls.
+
+Every reply is compared with the plain pair of tests/plainpair.py.
+"""
+import argparse
+import os
+import random
+import select
+import socket
+import subprocess
+import sys
+import tempfile
+import time
+from pathlib import Path
+
+import generate
+import plainpair
+import scripts
+
+SECONDS = 20  # within which a run has to end, and a reply to come
+QUESTIONS, MOST_SYSTEM_CALLS = 100000, 1000
+W_FILED = b"model w.tab\ndelivery w.cer\n"
+FILLINGS = (b"a", b" ", b"0", b"#", b"\0", b"\xff", b"\r")
+LENGTHS = (1, 254, 263, 264, 299, 300, 301, 302, 4096, 65535, 65536, 65537, 100000, 131072)
+
+
+def fail(what):
+    sys.exit("pieces: " + what)
+
+
+class Room:
+    """A desk program, and a folder of files in which it runs."""
+
+    def __init__(self, program, root):
+        self.program, self.root = program, root
+        self.folder = scripts.make_folder(random.Random(1), 0)
+        _, model, delivery, _ = next(generate.documented_edges())
+        self.folder.files.update({b"w.tab": model, b"w.cer": delivery, b"heavy.tab": b"", b"heavy.cer": b""})
+        for label, model, delivery in generate.far_ends():
+            if label == "a shortfall of 19 digits":
+                self.folder.files.update({b"heavy.tab": model, b"heavy.cer": delivery})
+        self.folder.write(os.fsencode(root))
+
+    def expected(self, script):
+        return scripts.printed(scripts.expected(self.folder, script)[0])
+
+    def compare(self, what, script, got):
+        wanted = self.expected(script)
+        if got != wanted:
+            at = next((at for at, pair in enumerate(zip(wanted, got)) if pair[0] != pair[1]), min(len(wanted), len(got)))
+            fail("%s: %d bytes, got %d; from byte %d on %r, got %r" % (what, len(wanted), len(got), at, wanted[at:at + 60], got[at:at + 60]))
+
+    def start(self, stdin, stdout, **settings):
+        return subprocess.Popen([self.program], cwd=self.root, stdin=stdin, stdout=stdout, stderr=subprocess.DEVNULL, **settings)
+
+    def run_at_once(self, script):
+        """What the desk prints when it reads the script from a file."""
+        with tempfile.TemporaryFile() as file:
+            file.write(script)
+            file.seek(0)
+            return subprocess.run([self.program], cwd=self.root, stdin=file, capture_output=True, timeout=SECONDS).stdout
+
+    def run_in_pieces(self, pieces):
+        """What it prints when each read hands it one of these pieces: a socket of whole messages is its input."""
+        ours, theirs = socket.socketpair(socket.AF_UNIX, socket.SOCK_SEQPACKET)
+        with tempfile.TemporaryFile() as out, ours:
+            process = self.start(theirs, out)
+            theirs.close()
+            for piece in pieces:
+                ours.sendall(piece)
+            ours.shutdown(socket.SHUT_WR)
+            process.wait(SECONDS)
+            out.seek(0)
+            return out.read()
+
+
+# Ways to cut an input into pieces, none of them empty.
+
+def cut_at(script, places):
+    places = [0, *places, len(script)]
+    return [script[low:high] for low, high in zip(places, places[1:]) if low < high]
+
+
+def by_bytes(rng, script):
+    return cut_at(script, range(len(script)))
+
+
+def by_odd_sizes(rng, script):
+    return cut_at(script, sorted(rng.sample(range(len(script)), len(script) // rng.choice((2, 10, 50, 200)))))
+
+
+def by_lines(rng, script):
+    return cut_at(script, [at + 1 for at, byte in enumerate(script) if byte == 10])
+
+
+def before_newlines(rng, script):
+    return cut_at(script, [at for at, byte in enumerate(script) if byte == 10])
+
+
+def in_thousands(rng, script):
+    return cut_at(script, range(0, len(script), 1000))
+
+
+# Tests. Each says how much it compared.
+
+def any_pieces(room, rng):
+    """Random scripts, cut in each way."""
+    made = [scripts.make_script(rng, room.folder)[0] for _ in range(12)]
+    for script in made:
+        room.compare("all at once", script, room.run_at_once(script))
+        for cut in (by_bytes, by_odd_sizes, by_lines, before_newlines):
+            room.compare("cut %s" % cut.__name__, script, room.run_in_pieces(cut(rng, script)))
+    return "%d scripts all at once and in pieces of four kinds" % len(made)
+
+
+def any_end(room, rng):
+    """The input may end anywhere, with or without a newline."""
+    script = W_FILED + b"margin\n\n# clear\nupper 0 0 1\nlive 1 0 0\nclear\n"
+    for end in range(len(script) + 1):
+        room.compare("ended after %d bytes" % end, script[:end], room.run_at_once(script[:end]))
+    return "%d ends of one script" % (len(script) + 1)
+
+
+def any_byte(room, rng):
+    """Every byte before, within and after a call, in a path and in a comment."""
+    forms = (b"%bmargin", b"mar%bgin", b"margin%b", b"upper 0 %b 0", b"live 1 0%b0", b"model w.tab%b", b"delivery %bw.cer", b"#%b", b"%b")
+    script = W_FILED + b"".join(form % bytes([byte]) + b"\n" for byte in range(256) for form in forms)
+    room.compare("every byte", script, room.run_at_once(script))
+    room.compare("every byte, a byte at a time", script, room.run_in_pieces(by_bytes(rng, script)))
+    return "every byte in %d places" % len(forms)
+
+
+def long_lines(room, rng):
+    """Lines of many lengths, each between calls that show that nothing changed, and as the last line without a newline."""
+    for filling in FILLINGS:
+        for start in (b"", b"#", b"model w.tab "):
+            lines = [start + filling * (length - len(start)) for length in LENGTHS if length >= len(start)]
+            script = W_FILED + b"\nmargin\n".join(lines) + b"\nmargin\n" + lines[-2]
+            room.compare("long lines", script, room.run_at_once(script))
+            room.compare("long lines in thousands", script, room.run_in_pieces(in_thousands(rng, script)))
+    return "lines of up to %d bytes" % max(LENGTHS)
+
+
+def dense_replies(room, rng):
+    """The most bytes of replies that few bytes of input can ask for."""
+    for script in (b"a\n" * QUESTIONS, b"model heavy.tab\n" + b"delivery heavy.cer\n" * 12000):
+        room.compare("dense replies", script, room.run_at_once(script))
+    return "replies of four times the input"
+
+
+def many_questions(room, rng):
+    """So many questions are answered by few system calls; counted where the system counts them."""
+    calls = (b"upper %d 0 %d", b"lower %d 0 %d", b"live %d 0 %d")
+    script = W_FILED + b"".join(rng.choice(calls) % (rng.randrange(2), rng.randrange(2)) + b"\n" for _ in range(QUESTIONS))
+    with tempfile.TemporaryFile() as file, tempfile.TemporaryFile() as out:
+        file.write(script)
+        file.seek(0)
+        process = room.start(file, out)
+        os.waitid(os.P_PID, process.pid, os.WEXITED | os.WNOWAIT)
+        counted = system_calls(process.pid)
+        process.wait(SECONDS)
+        out.seek(0)
+        room.compare("many questions", script, out.read())
+    if counted is None:
+        return "%d questions; skipped: this system does not count system calls" % QUESTIONS
+    if counted > MOST_SYSTEM_CALLS:
+        fail("%d questions took %d reads and writes" % (QUESTIONS, counted))
+    return "%d questions by %d reads and writes" % (QUESTIONS, counted)
+
+
+def system_calls(process):
+    """How often a process that has ended read and wrote, or None."""
+    try:
+        lines = Path("/proc/%d/io" % process).read_text().splitlines()
+    except OSError:
+        return None
+    return sum(int(line.split()[1]) for line in lines if line.startswith("sysc"))
+
+
+# A line at a time.
+
+class Driven:
+    """A desk that is handed something, and asked for its reply, before it gets more."""
+
+    def __init__(self, room):
+        self.process = room.start(subprocess.PIPE, subprocess.PIPE, bufsize=0)
+
+    def write(self, data):
+        self.process.stdin.write(data)
+
+    def reply(self):
+        """The next line that it prints, without its newline; fails if none comes in time."""
+        line, deadline = b"", time.monotonic() + SECONDS
+        while not line.endswith(b"\n"):
+            if not select.select([self.process.stdout], [], [], max(0, deadline - time.monotonic()))[0]:
+                fail("no reply within %d s" % SECONDS)
+            byte = self.process.stdout.read(1)
+            if not byte:
+                fail("the desk ended without a reply")
+            line += byte
+        return line[:-1].decode()
+
+    def is_silent(self):
+        return not select.select([self.process.stdout], [], [], 0.02)[0]
+
+    def close(self):
+        self.process.stdin.close()
+        if self.process.stdout.read() or self.process.wait(SECONDS) != 0:
+            fail("the desk did not end well")
+        self.process.stdout.close()
+
+
+def as_a_person(room, rng):
+    """Each reply comes before the next line is written, and none before its line is whole."""
+    asked = 0
+    for _ in range(12):
+        driven, script = Driven(room), scripts.make_script(rng, room.folder)[0]
+        for line, reply in scripts.expected(room.folder, script)[0]:
+            driven.write(line + b"\n")
+            got = None if reply is None else driven.reply()
+            asked += reply is not None
+            if got != reply:
+                fail("to %r %r, got %r" % (line, reply, got))
+        driven.write(b"cle")
+        if not driven.is_silent():
+            fail("a reply before the line's end")
+        driven.write(b"ar\nclear\nclear")
+        if [driven.reply(), driven.reply()] != ["cleared"] * 2 or not driven.is_silent():
+            fail("two lines in one piece do not get two replies")
+        driven.process.stdin.close()
+        if driven.process.stdout.read() != b"cleared\n":
+            fail("the last line without newline gets no reply")
+        driven.process.wait(SECONDS)
+    return "%d replies before the next line" % asked
+
+
+def files_change(room, rng):
+    """Files are read anew at each filing: they go missing, become others, become folders; what is held stays."""
+    model, delivery = room.folder.files[b"w.tab"], room.folder.files[b"w.cer"]
+    steps = ((b"m", None, b"model m", "refused 10 0 0"), (b"m", model, b"model m", "accepted"), (b"m", None, b"upper 0 0 0", "refused 42 0 0"),
+             (b"d", None, b"delivery d", "refused 20 0 0"), (b"d", delivery, b"delivery d", "new"), (b"d", None, b"margin", "value 45875"),
+             (b"d", None, b"delivery d", "refused 20 0 0"), (b"d", None, b"margin", "value 45875"), (b"d", delivery[:32], b"delivery d", "known"),
+             (b"d", delivery, b"margin", "refused 43 0 0"), (b"d", delivery, b"delivery d", "known"), (b"d", delivery, b"margin", "value 45875"),
+             (b"m", None, b"clear", "cleared"), (b"m", model[:-1], b"model m", "refused 10 0 0"), (b"m", model, b"model m", "accepted"))
+    driven = Driven(room)
+    for name, data, line, reply in steps:
+        path = Path(room.root, os.fsdecode(name))
+        path.unlink(missing_ok=True)
+        if data is not None:
+            path.write_bytes(data)
+        driven.write(line + b"\n")
+        got = driven.reply()
+        if got != reply:
+            fail("to %r with changed files %r, got %r" % (line, reply, got))
+    driven.close()
+    return "%d calls with files that change" % len(steps)
+
+
+# What goes wrong outside.
+
+def no_file(room, rng):
+    """A FIFO without a writer does not hang the desk, and counts as empty; so does a file that may not be read, with a warning."""
+    os.mkfifo(Path(room.root, "fifo"))
+    secret, own = Path(room.root, "secret"), Path(room.root, "desk")
+    secret.write_bytes(room.folder.files[b"w.tab"])
+    secret.chmod(0)
+    own.write_bytes(Path(room.program).read_bytes())
+    for path in (own, Path(room.root)):
+        path.chmod(0o755)
+    user = {"user": "nobody"} if os.getuid() == 0 else {}
+    done = subprocess.run([own], cwd=room.root, input=b"model fifo\nmodel secret\nmodel folder\nmodel gone\n", capture_output=True, timeout=SECONDS, **user)
+    if done.stdout != b"refused 10 0 0\n" * 4:
+        fail("files that cannot be read do not count as empty: %r" % done.stdout)
+    if [line for line in done.stderr.splitlines() if not line.startswith(b"fifo: ")] != [b"secret: Permission denied", b"folder: Is a directory"]:
+        fail("warnings: %r" % done.stderr)
+    return "files that cannot be read"
+
+
+def lost_output(room, rng):
+    with open("/dev/full", "wb") as full:
+        done = subprocess.run([room.program], cwd=room.root, input=W_FILED * 3, stdout=full, stderr=subprocess.PIPE, timeout=SECONDS)
+    if done.stderr != b"desk: output not written\n" or done.returncode != 0:
+        fail("lost output: status %d, %r" % (done.returncode, done.stderr))
+    return "lost output"
+
+
+TESTS = (any_pieces, any_end, any_byte, long_lines, dense_replies, many_questions, as_a_person, files_change, no_file, lost_output)
+
+
+def main():
+    options = argparse.ArgumentParser(description=__doc__)
+    options.add_argument("--seed", type=int, default=1)
+    options.add_argument("--program", required=True, help="the desk program")
+    options, start = options.parse_args(), time.monotonic_ns()
+    rng, told = random.Random(options.seed), []
+    for test in TESTS:
+        with tempfile.TemporaryDirectory(dir=scripts.SHARED_MEMORY if scripts.SHARED_MEMORY.is_dir() else None) as root:
+            told.append(test(Room(str(Path(options.program).resolve()), root), rng))
+    print("desk: " + "; ".join(told))
+    print("desk: input in pieces agrees in %d s" % ((time.monotonic_ns() - start) // 10**9))
+
+
+if __name__ == "__main__":
+    main()
