@@ -1,4 +1,5 @@
-/* Times the archive's calls against plain C on the same files, in one run, after checking that both answer the same. */
+/* Times the archive's calls against plain C on the same files, in one run, after checking that both answer the same. With a folder's name it
+   only writes the largest model and its delivery with all blocks there, for the desk to be timed on. */
 #define _POSIX_C_SOURCE 200809L
 #include "../include/bounds.h"
 #include "plain.h"
@@ -417,8 +418,29 @@ static void refused_last(const struct model *m)
     die("no mean steps are too small");
 }
 
-int main(void)
+static void write_file(const char *folder, const char *name, const uint8_t *bytes, size_t len)
 {
+    char path[4096];
+    snprintf(path, sizeof path, "%s/%s", folder, name);
+    FILE *out = fopen(path, "wb");
+    if (!out || fwrite(bytes, 1, len, out) != len || fclose(out) != 0)
+        die("a file is not written");
+}
+
+static void write_largest(const char *folder)
+{
+    struct model large = rich(8, 16, 8);
+    struct delivery d = certificate(&large, "ULR");
+    write_file(folder, "model.tab", large.file, 10 * large.records);
+    write_file(folder, "bounds.cer", d.file, d.len);
+}
+
+int main(int count, char **arguments)
+{
+    if (count == 2) {
+        write_largest(arguments[1]);
+        return 0;
+    }
     static const char *const all[] = {"U", "UL", "ULR", NULL}, *const without_means[] = {"U", "UL", NULL};
     struct model one = single(), small = rich(4, 8, 4), thin = one_a_row(8, 16), large = rich(8, 16, 8), dead = never_removes(8, 16, 8);
     struct model chain = deep(0), padded = deep(1024 - (int)chain.records);
