@@ -1,0 +1,210 @@
+"""Writes the stored script: the lines and the files that the program desk runs on in `rt ci`, and the output that the plain pair expects of them.
+
+With --check it writes nothing and stops if a stored file is not what it would write. --to FOLDER has them in another folder than crates/desk.
+"""
+import argparse
+import posixpath
+import sys
+from pathlib import Path
+
+import generate
+import plainpair
+import scripts
+from stored import certificate, of_w, rules
+
+CRATE = Path(__file__).resolve().parent.parent / "crates" / "desk"
+QUESTIONS = ["upper 0 0 0", "lower 0 0 0", "steps 0 0", "margin", "live 0 0 0"]
+REPLIES = {"cleared", "accepted", "known", "new", "value", "refused", "unclear", None}
+
+
+# The files.
+
+def model_files():
+    w, large = generate.MODEL_W, generate.largest_model()
+    return {
+        "w.tab": w, "one.tab": generate.one_row_model(49152, 16384), "modèle-表.tab": w, "large.tab": large,
+        "10.tab": w[:-1], "11.tab": rules((0, 0, 8, 0, 0, 0, 65536)), "12.tab": rules((0, 0, 0, 0, 0, 0, 32768), (0, 0, 0, 1, 0, 1, 32768)),
+        "13.tab": rules((0, 0, 0, 0, 0, 0, 65537)), "14.tab": w[:10] + w, "15.tab": rules((0, 0, 1, 0, 0, 0, 65536)),
+        "longer.tab": large + large[-10:], "empty": b"", "sub/w.tab": w,
+    }
+
+
+def delivery_files():
+    filed, one, large = of_w(), generate.one_row_model(49152, 16384), generate.largest_certificate()
+    accepted = {
+        "w.cer": filed, "w-u.cer": of_w(lower=None, mean=None), "w-ul.cer": of_w(mean=None), "w-ur.cer": of_w(lower=None),
+        "w-least.cer": of_w(upper=[655360, 466034, 0, 1179648]), "w-486.cer": of_w(mean=[486, 256]),
+        "one-ul.cer": certificate(one, [1052672], [1048574]), "one-ur.cer": certificate(one, [1048576], mean=[512]), "large.cer": large,
+    }
+    refused = {
+        "20.cer": filed[:-8], "20-longer.cer": filed + b"\0", "21.cer": filed[:32] + b"U" + filed[33:], "22.cer": of_w(upper=[2097153, 524288, 0, 1179648]),
+        "23.cer": of_w(upper=[655360, 524288, 1, 1179648]), "24.cer": of_w(upper=[655360, 466033, 0, 1179648]),
+        "25.cer": of_w(lower=[524288, 524289, 0, 1048576]), "26.cer": of_w(lower=[630000, 393216, 0, 1048576]), "27.cer": of_w(mean=[485, 256]),
+        "longer.cer": large + large[-8:],
+    }
+    return {**accepted, **refused}
+
+
+# The lines, each group with a comment of its own. Calls are text; lines with other bytes are bytes.
+
+def empty_register():
+    yield from ("# An empty register: 40 to all but a model and a clearing, whatever the file.", "clear", "clear", *QUESTIONS)
+    yield from ("upper 999999999 999999999 999999999", "delivery w.cer", "delivery gone", "delivery sub", "delivery empty")
+
+
+def refused_models():
+    yield "# Models that are refused, and files that are missing, empty, a folder or too long."
+    for name in ("10", "11", "12", "13", "14", "15", "longer"):
+        yield "model %s.tab" % name
+    yield from ("model gone", "model empty", "model sub", "model w.cer", "model .", "live 0 0 0")
+
+
+def model_alone():
+    yield from ("# W, and a second model: 41 whatever the file. Without a delivery: 42, but for live marks.", "model w.tab", "model w.tab", "model gone", "model 10.tab")
+    yield from (*QUESTIONS, "live 1 0 0", "live 0 0 1", "live 1 0 1", "live 2 0 0", "live 0 1 0", "live 0 0 2", "upper 2 0 0", "lower 0 1 0", "steps 9 9")
+
+
+def refused_deliveries():
+    yield "# Deliveries that are refused, first with none held, then with W's, which stays."
+    names = [name for name in delivery_files() if name[0] == "2"]
+    yield from ("delivery %s" % name for name in [*names, "one-ul.cer", "large.cer", "longer.cer", "empty", "gone", "sub", "w.tab"])
+    yield from ("upper 0 0 0", "delivery w.cer", "margin")
+    yield from (line for name in names for line in ("delivery %s" % name, "margin"))
+
+
+def all_of_w():
+    yield "# W's numbers as document 01 has them."
+    entries = [(p, q) for p in range(2) for q in range(2)]
+    yield from ("%s %d 0 %d" % (name, *entry) for name in ("lower", "upper", "live") for entry in entries)
+    yield from ("steps 0 0", "steps 1 0", "margin")
+
+
+def marks_and_shapes():
+    yield "# The four shapes, of which those with the same uppers are known; 44 comes before 43."
+    for name in ("w-u.cer", "w-ul.cer", "w-ur.cer", "w.cer", "w-least.cer", "w-486.cer"):
+        yield from ("delivery %s" % name, *QUESTIONS)
+    yield from ("delivery w-u.cer", "lower 2 0 0", "lower 0 1 0", "lower 0 0 2", "steps 0 1", "steps 2 0", "delivery w-u.cer", "delivery w.cer")
+
+
+def clearing():
+    yield from ("# A clearing drops both files: the next delivery is new.", "clear", "margin", "delivery w.cer", "model w.tab", "margin", "delivery w.cer", "delivery w.cer")
+
+
+def numbers():
+    yield "# Numbers: leading zeros, nine digits, and those that would be in range by their last digit or their low bits."
+    for word in ("0", "00", "000000000", "000000001", "1", "2", "10", "256", "257", "65536", "16777216", "999999999", "100000000", "0000000000", "1000000000", "4294967296"):
+        yield "upper %s 0 1" % word
+    for word in ("", "-0", "+1", "1a", "a", "0x0", "1.0", "1_0", "1,0", "/", ":", "٣", "1e0", "\u00a01"):
+        yield "upper 0 0 %s" % word
+
+
+def paths():
+    long = "./" * 125 + "w.tab"
+    yield from ("# Paths: in UTF-8, of 255 bytes, of 256 bytes, none, in a folder, by a longer way.", "clear", "model modèle-表.tab", "clear", "model " + long, "clear")
+    yield from ("model ./" + long, "model /" + "./" * 124 + ".//gone", "delivery " + "n" * 255, "delivery " + "n" * 256, "model", "model ", "delivery", "delivery ")
+    yield from ("model sub/w.tab", "clear", "model ./sub/../w.tab", "model #gone", b"model \x80\xff", b"delivery \xff\xfe", "delivery w.cer", "margin")
+
+
+def unclear_words():
+    yield "# Lines that are no call change nothing."
+    yield from (" ", "  ", " clear", "clear ", "  clear", "clear  ", "clear clear", "clear 0", "Clear", "CLEAR", "clea", "clears", "cleared", "\u00e7lear", "value 3", "known", "help")
+    yield from ("margin 0", "margin margin", "Margin", "margin ", "upper", "upper 0", "upper 0 0", "upper 0 0 0 0", "upper 0 0 0 0 0 0", "upper  0 0 0", "upper 0  0 0", "upper 0 0  0")
+    yield from (" upper 0 0 0", "upper 0 0 0 ", "Upper 0 0 0", "uppe 0 0 0", "uppers 0 0 0", "lower 0 0", "lower 0 0 0 0", "steps 0", "steps 0 0 0", "steps  0 0", "live 0 0")
+    yield from ("live 0 0 0 0", "model w.tab w.tab", "model  w.tab", " model w.tab", "model w.tab ", "Model w.tab", "delivery w.cer w.cer", "delivery  w.cer", "modelw.tab", "margin")
+
+
+def unclear_bytes():
+    yield "# Control bytes in a call, at its end, for a space and in a path; bytes from 128 on in a name and in a number."
+    for byte in scripts.CONTROLS:
+        yield b"margin" + bytes([byte])
+    for byte in (b"\0", b"\r", b"\x7f"):
+        yield from (byte + b"clear", b"cl" + byte + b"ear", b"upper" + byte + b"0 0 0", b"delivery w" + byte + b".cer", byte)
+    for byte in (b"\x80", b"\xff"):
+        yield from (b"margin" + byte, b"upper 0 0 " + byte, byte)
+    yield b"upper\t0\t0\t0"
+    yield "margin"
+
+
+def lengths():
+    yield "# Long lines get one reply each; comments and empty lines get none, however long and whatever their bytes."
+    for length in (264, 265, 300, 301):
+        yield from ("delivery ".ljust(length, "n"), "margin".ljust(length), "#".ljust(length, "c"))
+    yield from ("c" * 66000, "# clear " * 200, "", "", "#", "##", "#clear", "# clear", b"#\0\x01\t\x7f\xff\r", b"#" + bytes(1000), " #", " # clear", "clear # now", "margin")
+
+
+def largest():
+    yield from ("# The largest files.", "clear", "model longer.tab", "model large.tab", "delivery w.cer", "delivery longer.cer", "delivery large.cer", "delivery large.cer", "margin")
+    yield from ("upper 7 15 7", "lower 7 15 7", "steps 7 15", "live 7 15 7", "upper 0 0 0", "upper 7 0 0", "upper 0 15 0", "upper 0 0 7", "steps 7 0", "steps 0 15")
+    yield from ("upper 8 0 0", "upper 0 16 0", "upper 0 0 8", "lower 7 15 8", "steps 8 0", "steps 0 16", "live 8 15 7", "live 7 16 7")
+
+
+def one_state():
+    yield from ("# One state: the kind byte tells UL from UR. The last line has no newline.", "clear", "model one.tab", "delivery w.cer", "delivery one-ul.cer", *QUESTIONS)
+    yield from ("delivery one-ur.cer", *QUESTIONS, "upper 1 0 0", "live 0 0 1", "steps 0 1", "delivery one-ul.cer", "clear", "model one.tab", "live 0 0 0")
+
+
+GROUPS = (empty_register, refused_models, model_alone, refused_deliveries, all_of_w, marks_and_shapes, clearing, numbers, paths, unclear_words, unclear_bytes,
+          lengths, largest, one_state)
+
+
+def script():
+    lines = [line if isinstance(line, bytes) else line.encode() for group in GROUPS for line in group()]
+    return b"\n".join(lines)
+
+
+# The output.
+
+def desk_over(files):
+    named = {name.encode(): data for name, data in files.items()}
+    return plainpair.Desk(lambda path, most: named.get(posixpath.normpath(path), b"")[:most])
+
+
+def check_complete(replies):
+    """Stops unless each kind of reply and each reason occurs."""
+    words = {reply and reply.split()[0] for reply in replies}
+    numbers = {int(reply.split()[1]) for reply in replies if reply and reply.startswith("refused")}
+    missing = (REPLIES - words) | (set(scripts.REASONS) - numbers)
+    if missing:
+        sys.exit("the stored script has no reply: %s" % sorted(map(str, missing)))
+
+
+def made_files():
+    """Path under crates/desk/ -> bytes."""
+    files, text = {**model_files(), **delivery_files()}, script()
+    desk = desk_over(files)
+    replies = [desk.reply_to_line(line) for line in desk.lines_of(text)]
+    check_complete(replies)
+    made = {"data/" + name: data for name, data in files.items()}
+    made["stdin"] = text
+    made["stdout"] = "".join(reply + "\n" for reply in replies if reply is not None).encode()
+    return made
+
+
+def check(folder, made, found):
+    for name, data in made.items():
+        if not (folder / name).exists() or (folder / name).read_bytes() != data:
+            sys.exit("stored file is not what the plain pair makes: " + name)
+    if found - set(made):
+        sys.exit("stored files of no line: %s" % sorted(found - set(made)))
+    print("stored script: %d lines and %d files as the plain pair makes them" % (made["stdin"].count(b"\n") + 1, len(made)))
+
+
+def main():
+    options = argparse.ArgumentParser(description=__doc__)
+    options.add_argument("--check", action="store_true")
+    options.add_argument("--to", type=Path, default=CRATE, metavar="FOLDER")
+    options = options.parse_args()
+    made = made_files()
+    found = {str(path.relative_to(options.to)) for path in (options.to / "data").rglob("*") if path.is_file()}
+    if options.check:
+        check(options.to, made, found)
+        return
+    for name in found - set(made):
+        (options.to / name).unlink()
+    for name, data in made.items():
+        (options.to / name).parent.mkdir(parents=True, exist_ok=True)
+        (options.to / name).write_bytes(data)
+
+
+if __name__ == "__main__":
+    main()
