@@ -4,6 +4,7 @@ Every reply is compared with the plain pair of tests/plainpair.py.
 """
 import argparse
 import os
+import posixpath
 import random
 import select
 import socket
@@ -40,6 +41,16 @@ class Room:
             if label == "a shortfall of 19 digits":
                 self.folder.files.update({b"heavy.tab": model, b"heavy.cer": delivery})
         self.folder.write(os.fsencode(root))
+
+    def put(self, name, data):
+        """Gives a file other bytes, or removes it."""
+        path = os.path.join(os.fsencode(self.root), name)
+        if data is None:
+            self.folder.files.pop(name, None)
+            Path(os.fsdecode(path)).unlink(missing_ok=True)
+            return
+        self.folder.files[name] = data
+        Path(os.fsdecode(path)).write_bytes(data)
 
     def expected(self, script):
         return scripts.printed(scripts.expected(self.folder, script)[0])
@@ -200,6 +211,13 @@ class Driven:
             line += byte
         return line[:-1].decode()
 
+    def ask(self, line, reply):
+        """Writes a line, and fails unless it gets this reply, or none if it should get none."""
+        self.write(line + b"\n")
+        got = None if reply is None else self.reply()
+        if got != reply:
+            fail("to %r %r, got %r" % (line[:300], reply, got))
+
     def is_silent(self):
         return not select.select([self.process.stdout], [], [], 0.02)[0]
 
@@ -216,11 +234,8 @@ def as_a_person(room, rng):
     for _ in range(12):
         driven, script = Driven(room), scripts.make_script(rng, room.folder)[0]
         for line, reply in scripts.expected(room.folder, script)[0]:
-            driven.write(line + b"\n")
-            got = None if reply is None else driven.reply()
+            driven.ask(line, reply)
             asked += reply is not None
-            if got != reply:
-                fail("to %r %r, got %r" % (line, reply, got))
         driven.write(b"cle")
         if not driven.is_silent():
             fail("a reply before the line's end")
@@ -244,16 +259,25 @@ def files_change(room, rng):
              (b"m", None, b"clear", "cleared"), (b"m", model[:-1], b"model m", "refused 10 0 0"), (b"m", model, b"model m", "accepted"))
     driven = Driven(room)
     for name, data, line, reply in steps:
-        path = Path(room.root, os.fsdecode(name))
-        path.unlink(missing_ok=True)
-        if data is not None:
-            path.write_bytes(data)
-        driven.write(line + b"\n")
-        got = driven.reply()
-        if got != reply:
-            fail("to %r with changed files %r, got %r" % (line, reply, got))
+        room.put(name, data)
+        driven.ask(line, reply)
     driven.close()
     return "%d calls with files that change" % len(steps)
+
+
+def files_go_missing(room, rng):
+    """Random scripts: a file goes missing, comes back or becomes another just before the line that names it."""
+    made, originals, changes = [scripts.make_script(rng, room.folder)[0] for _ in range(60)], dict(room.folder.files), 0
+    for script in made:
+        driven, desk = Driven(room), plainpair.Desk(room.folder.reader([]))
+        for line in desk.lines_of(script):
+            name = posixpath.normpath(line.split(b" ")[-1])
+            if name in originals and rng.randrange(2):
+                room.put(name, rng.choice((None, originals[name], rng.choice(list(originals.values())))))
+                changes += 1
+            driven.ask(line, desk.reply_to_line(line))
+        driven.close()
+    return "%d files changed within random scripts" % changes
 
 
 # What goes wrong outside.
@@ -284,7 +308,7 @@ def lost_output(room, rng):
     return "lost output"
 
 
-TESTS = (any_pieces, any_end, any_byte, long_lines, dense_replies, many_questions, as_a_person, files_change, no_file, lost_output)
+TESTS = (any_pieces, any_end, any_byte, long_lines, dense_replies, many_questions, as_a_person, files_change, files_go_missing, no_file, lost_output)
 
 
 def main():
