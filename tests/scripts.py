@@ -358,7 +358,7 @@ def main():
     options.add_argument("--count", type=int, default=2000, help="scripts")
     options.add_argument("--program", required=True, help="the desk program")
     options, start = options.parse_args(), time.monotonic_ns()
-    program, kinds, wrong, replies = str(Path(options.program).resolve()), Counter(), 0, 0
+    program, kinds, wrong = str(Path(options.program).resolve()), Counter(), 0
     for number, (folder, scripts) in enumerate(folders_of_scripts(options.seed, options.count)):
         wrong += compare_folder(program, number, folder, scripts, kinds)
         if wrong >= MOST_SHOWN:
