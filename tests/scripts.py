@@ -274,19 +274,15 @@ def folders_of_scripts(seed, count):
 # The comparison.
 
 def expected(folder, script):
-    """(lines with their replies, None for no reply; the warnings)."""
-    warnings = []
+    """(lines with their replies, None for no reply; the warnings; the marks of deliveries that were filed, each with its shape)."""
+    answered, warnings, filed = [], [], []
     desk = plainpair.Desk(folder.reader(warnings))
-    return [(line, desk.reply_to_line(line)) for line in desk.lines_of(script)], b"".join(warnings)
-
-
-def shapes_filed(folder, script):
-    """The marks of the deliveries that a script files, each with the shape then held."""
-    desk = plainpair.Desk(folder.reader([]))
     for line in desk.lines_of(script):
         reply = desk.reply_to_line(line)
+        answered.append((line, reply))
         if reply in ("known", "new"):
-            yield "%s %s" % (reply, checker.shape_of(desk.table(), desk.delivery))
+            filed.append("%s %s" % (reply, checker.shape_of(desk.table(), desk.delivery)))
+    return answered, b"".join(warnings), filed
 
 
 def printed(answered):
@@ -332,12 +328,12 @@ def compare_folder(program, number, folder, scripts, kinds):
     with tempfile.TemporaryDirectory(dir=SHARED_MEMORY if SHARED_MEMORY.is_dir() else None) as root:
         folder.write(os.fsencode(root))
         for at, (script, line_kinds) in enumerate(scripts):
-            answered, warnings = expected(folder, script)
+            answered, warnings, filed = expected(folder, script)
             count_kinds(kinds, answered, line_kinds)
-            kinds.update(shapes_filed(folder, script))
+            kinds.update(filed)
             wrong += not agrees(program, root, "folder %d, script %d" % (number, at), script, answered, warnings)
         joined = b"\n".join(script for script, _ in scripts)
-        wrong += not agrees(program, root, "folder %d, all scripts" % number, joined, *expected(folder, joined))
+        wrong += not agrees(program, root, "folder %d, all scripts" % number, joined, *expected(folder, joined)[:2])
     return wrong
 
 
