@@ -13,6 +13,7 @@ import generate
 import soundness
 
 FEWEST = 20  # cases that every reason and every accepted shape must get
+ENOUGH = 24000  # cases from which on they must get them, and models be enough
 MOST_SHOWN = 5  # mismatches shown before giving up
 DELIVERIES_JUDGED = 1000  # accepted deliveries held against runs, at most
 DELIVERIES_OF_A_MODEL = 3  # of these, at most
@@ -112,18 +113,25 @@ def compare_all(host, seed, count):
     return kinds, accepted
 
 
-def show_kinds(kinds):
-    """Prints the table; exits when a kind is too rare."""
+def demand(met, count, what):
+    """Exits where a demand on all cases together is not met; says that it was skipped where there are too few for it."""
+    if count < ENOUGH:
+        print("skipped, for which %d cases are needed: %s" % (ENOUGH, what))
+    elif not met:
+        sys.exit("not so: " + what)
+
+
+def show_kinds(kinds, count):
+    """Prints the table; no kind may be too rare."""
     shapes = ["accepted %s%s" % (shape, tail) for shape in checker.SHAPES for tail in ("", ", one state")]
     for kind in [*REASONS, *shapes]:
         print("%-24s %6d" % (kind, kinds[kind]))
     rare = [kind for kind in [*REASONS, *shapes] if kinds[kind] < FEWEST]
-    if rare:
-        sys.exit("fewer than %d cases: %s" % (FEWEST, rare))
+    demand(not rare, count, "every kind has at least %d cases; fewer have %s" % (FEWEST, rare or "none"))
 
 
-def judge_accepted(accepted):
-    """Holds the deliveries against runs; exits on a fault or when there were too few."""
+def judge_accepted(accepted, count):
+    """Holds the deliveries against runs; exits on a fault. There may not be too few."""
     models, noticed = set(), Counter()
     for model, delivery in accepted:
         faults, kinds = soundness.judge(model, delivery)
@@ -132,14 +140,21 @@ def judge_accepted(accepted):
         models.add(model)
         noticed.update(kinds)
     print("held against runs: %d deliveries of %d models; false figures noticed: %s" % (len(accepted), len(models), dict(noticed)))
-    if len(models) < MODELS_JUDGED or min(noticed[kind] for kind in ("upper", "lower", "mean")) < FEWEST:
-        sys.exit("too few models held against runs")
+    demand(len(models) >= MODELS_JUDGED, count, "at least %d models are held against runs" % MODELS_JUDGED)
+    demand(all(noticed[kind] >= FEWEST for kind in ("upper", "lower", "mean")), count, "at least %d false figures of each block are noticed" % FEWEST)
+
+
+def positive(word):
+    number = int(word)
+    if number < 1:
+        raise ValueError
+    return number
 
 
 def main():
     options = argparse.ArgumentParser(description=__doc__)
     options.add_argument("--seed", type=int, default=1)
-    options.add_argument("--count", type=int, default=24000)
+    options.add_argument("--count", type=positive, default=ENOUGH)
     options.add_argument("--archive", required=True, help="libbounds.a")
     options.add_argument("--include", required=True, help="the folder of bounds.h")
     options.add_argument("--program", required=True, help="the showbounds program")
@@ -149,9 +164,9 @@ def main():
         host = Host(build, work, options)
         kinds, accepted = compare_all(host, options.seed, options.count)
         host.close()
-    show_kinds(kinds)
+    show_kinds(kinds, options.count)
     compared = time.monotonic_ns()
-    judge_accepted(accepted)
+    judge_accepted(accepted, options.count)
     print("%d cases agree in %d s; runs took %d s" % (sum(kinds.values()), (compared - start) // 10**9, (time.monotonic_ns() - compared) // 10**9))
 
 
