@@ -113,12 +113,12 @@ def compare_all(host, seed, count):
     return kinds, accepted
 
 
-def demand(met, count, what):
+def demand(met, count, what, missing=""):
     """Exits where a demand on all cases together is not met; says that it was skipped where there are too few for it."""
     if count < ENOUGH:
         print("skipped, for which %d cases are needed: %s" % (ENOUGH, what))
     elif not met:
-        sys.exit("not so: " + what)
+        sys.exit("not so: %s %s" % (what, missing))
 
 
 def show_kinds(kinds, count):
@@ -127,7 +127,7 @@ def show_kinds(kinds, count):
     for kind in [*REASONS, *shapes]:
         print("%-24s %6d" % (kind, kinds[kind]))
     rare = [kind for kind in [*REASONS, *shapes] if kinds[kind] < FEWEST]
-    demand(not rare, count, "every kind has at least %d cases; fewer have %s" % (FEWEST, rare or "none"))
+    demand(not rare, count, "every kind has at least %d cases" % FEWEST, rare)
 
 
 def judge_accepted(accepted, count):
