@@ -1,6 +1,6 @@
 -- A piece of input that the desk takes whole: there is room for the replies to all its lines.
 use Prim.Native.Nat.{ℕ, _*_, _≤_}
-use mathlib.Core.List.{List, []}
+use mathlib.Core.List.{List}
 use lib.ListN.{length, take}
 use Rattle.replies.specs.Contracts.{replyRoom}
 use Rattle.script.specs.Serving.{Serves}
@@ -19,4 +19,4 @@ roomBytes = pieceBytes * replyRoom
 -- All bytes of the piece are taken, and the first `printed` bytes of `out` are the replies.
 pub record TookAll (d : Desk) (piece out : List ℕ) (r : Served) : Type 0 where
   pub fits : r .printed ≤ length out
-  pub serves : Serves (stateOf d []) piece (stateOf (r .desk) (take (r .printed) out))
+  pub serves : Serves (stateOf d) piece (stateOf (r .desk)) (take (r .printed) out)

@@ -2,13 +2,12 @@
 use Prim.Native.Nat.{ℕ, zero, suc}
 use native.Mathlib.Omega.{arith}
 use mathlib.Core.Bool.{Bool, true, false, cond}
-use mathlib.Core.List.{List, [], _∷_, _++_, map, append-nil, append-assoc}
+use mathlib.Core.List.{List, [], _∷_, _++_, map, flatten, append-nil, append-assoc}
 use mathlib.Core.Path.{_≡_, refl, sym, ap, ap₂, _∙_}
 use lib.Dec.{eqb}
 use lib.ListN.{take}
 use Rattle.text.specs.Reading.{pieces}
 use Rattle.calls.specs.Calls.{Call}
-use Rattle.register.specs.Filing.{cleared}
 use Rattle.history.specs.Plain.{Event, pairOf, plainReply}
 use Rattle.history.specs.Run.{registerAfter, history}
 use Rattle.history.specs.Mission.{Mission}
@@ -18,7 +17,7 @@ use Rattle.said.specs.Said.{saidBy}
 use Rattle.said.proofs.Meaning.{kept-says}
 use Rattle.replies.specs.Replies.{replyLine}
 use Rattle.script.specs.Script.{Line, Asked, nothing, unclear, call, askedBy, asks, eventsBy, textBy, printedAfter, callsBy, callsAfter, Prints}
-use Rattle.script.specs.Serving.{keptBytes, State, Byte, registerBy, replyBy, kept, ended, step, after, Serves}
+use Rattle.script.specs.Serving.{keptBytes, State, start, Byte, registerBy, replyBy, kept, ended, step, printedBy, after, printedFor, Serves, ServesPieces, no-piece, one-piece}
 use Rattle.script.proofs.Pieces.{piece-longer, piece-ended, pieces-closed, last-off}
 
 -- ---- one line
@@ -72,36 +71,33 @@ lines-more (k ∷ ls) l = ap (λ t. k .bytes ∷ t) (lines-more ls l)
 
 -- ---- byte by byte
 
--- The state of a desk after the input: lines that have ended, and the rest, of which the first bytes are kept.
-record Follows (input : List ℕ) (s : State) : Type 0 where
+-- The state of a desk after the input, and what it has printed: lines that have ended, and the rest, of which the first bytes are kept.
+record Follows (input : List ℕ) (s : State) (text : List ℕ) : Type 0 where
   lines : List Line
   rest : List ℕ
   so-far : pieces 10 input ≡ map (λ l. l .bytes) lines ++ (rest ∷ [])
   line-kept : s .line ≡ take keptBytes rest
   register-is : s .register ≡ registerAfter (callsAfter [] lines)
-  text-is : s .text ≡ printedAfter [] lines
+  text-is : text ≡ printedAfter [] lines
 
 take-kept : (n : ℕ) (l k : List ℕ) → take n (take n l ++ k) ≡ take n (l ++ k)
 take-kept zero l k = refl
 take-kept (suc n) [] k = refl
 take-kept (suc n) (x ∷ l) k = ap (λ t. x ∷ t) (take-kept n l k)
 
-pub start : State
-start = record { register = cleared; line = []; text = [] }
-
-starts : Follows [] start
-unfolding start pieces registerAfter callsAfter printedAfter
+starts : Follows [] start []
+unfolding pieces registerAfter callsAfter printedAfter
 starts = record { lines = []; rest = []; so-far = refl; line-kept = refl; register-is = refl; text-is = refl }
 
-module _ {input : List ℕ} {s : State} (so : Follows input s) where
-  follows-kept : (b : ℕ) → eqb b 10 ≡ false → Follows (input ++ (b ∷ [])) (kept s b)
+module _ {input : List ℕ} {s : State} {text : List ℕ} (so : Follows input s text) where
+  follows-kept : (b : ℕ) → eqb b 10 ≡ false → Follows (input ++ (b ∷ [])) (kept s b) (text ++ [])
   follows-kept b other = record {
     lines = so .lines;
     rest = so .rest ++ (b ∷ []);
     so-far = piece-longer 10 input (map (λ l. l .bytes) (so .lines)) (so .rest) (so .so-far) b other;
     line-kept = rw (so .line-kept) (take-kept keptBytes (so .rest) (b ∷ []));
     register-is = so .register-is;
-    text-is = so .text-is;
+    text-is = append-nil text ∙ so .text-is;
   }
 
   module _ (b : ℕ) (f : List ℕ) (is : eqb b 10 ≡ true) where
@@ -112,7 +108,7 @@ module _ {input : List ℕ} {s : State} (so : Follows input s) where
     unfolding ended-line
     asked = ap (λ said. askedBy said f) (ap saidBy (so .line-kept) ∙ kept-says keptBytes (so .rest) (omega arith))
 
-    follows-ended : Follows (input ++ (b ∷ [])) (ended s f)
+    follows-ended : Follows (input ++ (b ∷ [])) (ended s f) (text ++ replyBy (s .register) (askedBy (saidBy (s .line)) f))
     unfolding ended-line history
     follows-ended =
         let cs = callsAfter [] (so .lines) in
@@ -128,55 +124,74 @@ module _ {input : List ℕ} {s : State} (so : Follows input s) where
               ∙ sym (printed-more [] (so .lines) ended-line));
         }
 
-  follows-step : (x : Byte) → Follows (input ++ (x .byte ∷ [])) (step s x)
-  unfolding step
+  follows-step : (x : Byte) → Follows (input ++ (x .byte ∷ [])) (step s x) (text ++ printedBy s x)
+  unfolding step printedBy
   follows-step x = go (eqb (x .byte) 10) refl
     where
-      go : (t : Bool) → eqb (x .byte) 10 ≡ t → Follows (input ++ (x .byte ∷ [])) (cond t (ended s (x .file)) (kept s (x .byte)))
+      go : (t : Bool) → eqb (x .byte) 10 ≡ t
+          → Follows (input ++ (x .byte ∷ [])) (cond t (ended s (x .file)) (kept s (x .byte)))
+          (text ++ cond t (replyBy (s .register) (askedBy (saidBy (s .line)) (x .file))) [])
       go true is = follows-ended (x .byte) (x .file) is
       go false other = follows-kept (x .byte) other
 
-follows-after : {input : List ℕ} {s : State} (xs : List Byte) → Follows input s → Follows (input ++ map (λ x. x .byte) xs) (after s xs)
-unfolding after
-follows-after {input} [] so = rw (append-nil input) so
-follows-after {input} (x ∷ xs) so =
-    rw (append-assoc input (x .byte ∷ []) (map (λ x. x .byte) xs)) at (follows-after xs (follows-step so x))
+follows-after : {input : List ℕ} {s : State} {text : List ℕ} (xs : List Byte) → Follows input s text
+    → Follows (input ++ map (λ x. x .byte) xs) (after s xs) (text ++ printedFor s xs)
+unfolding after printedFor
+follows-after {input} {text = text} [] so = rw (append-nil input, append-nil text) so
+follows-after {input} {s} {text} (x ∷ xs) so =
+    rw (append-assoc input (x .byte ∷ []) (map (λ x. x .byte) xs), append-assoc text (printedBy s x) (printedFor (step s x) xs)) at
+    (follows-after xs (follows-step so x))
 
 -- ---- the theorems
 
--- Bytes that a desk takes one piece after the other are taken as one.
+-- Bytes that a desk takes one after the other.
 after-append : (s : State) (xs ys : List Byte) → after s (xs ++ ys) ≡ after (after s xs) ys
 unfolding after
 after-append s [] ys = refl
 after-append s (x ∷ xs) ys = after-append (step s x) xs ys
 
+printed-append : (s : State) (xs ys : List Byte) → printedFor s (xs ++ ys) ≡ printedFor s xs ++ printedFor (after s xs) ys
+unfolding after printedFor
+printed-append s [] ys = refl
+printed-append s (x ∷ xs) ys =
+    ap (λ t. printedBy s x ++ t) (printed-append (step s x) xs ys)
+    ∙ sym (append-assoc (printedBy s x) (printedFor (step s x) xs) (printedFor (after (step s x) xs) ys))
+
 bytes-append : (xs ys : List Byte) → map (λ x. x .byte) (xs ++ ys) ≡ map (λ x. x .byte) xs ++ map (λ x. x .byte) ys
 bytes-append [] ys = refl
 bytes-append (x ∷ xs) ys = ap (λ l. x .byte ∷ l) (bytes-append xs ys)
 
-pub serves-none : (s : State) → Serves s [] s
-unfolding after
-serves-none s = record { taken = []; as-bytes = refl; leads = refl }
+pub serves-none : (s : State) → Serves s [] s []
+unfolding after printedFor
+serves-none s = record { taken = []; as-bytes = refl; leads = refl; prints = refl }
 
-pub serves-then : {s t u : State} {bs cs : List ℕ} → Serves s bs t → Serves t cs u → Serves s (bs ++ cs) u
+pub serves-then : {s t u : State} {bs cs o p : List ℕ} → Serves s bs t o → Serves t cs u p → Serves s (bs ++ cs) u (o ++ p)
 serves-then {s} one two = record {
   taken = one .taken ++ two .taken;
   as-bytes = bytes-append (one .taken) (two .taken) ∙ ap₂ _++_ (one .as-bytes) (two .as-bytes);
   leads = after-append s (one .taken) (two .taken) ∙ ap (λ t. after t (two .taken)) (one .leads) ∙ two .leads;
+  prints = printed-append s (one .taken) (two .taken)
+      ∙ ap₂ _++_ (one .prints) (ap (λ t. printedFor t (two .taken)) (one .leads) ∙ two .prints);
 }
 
-pub serves-byte : (t : State) (x : Byte) → Serves t (x .byte ∷ []) (step t x)
-unfolding after
-serves-byte t x = record { taken = x ∷ []; as-bytes = refl; leads = refl }
+pub serves-byte : (t : State) (x : Byte) → Serves t (x .byte ∷ []) (step t x) (printedBy t x)
+unfolding after printedFor
+serves-byte t x = record { taken = x ∷ []; as-bytes = refl; leads = refl; prints = append-nil (printedBy t x) }
+
+-- In whatever pieces the bytes come, they are served as one.
+pub pieces-as-one : {s u : State} {ps : List (List ℕ)} {o : List ℕ} → ServesPieces s ps u o → Serves s (flatten ps) u o
+unfolding flatten
+pieces-as-one {s} no-piece = serves-none s
+pieces-as-one (one-piece first others) = serves-then first (pieces-as-one others)
 
 -- What a desk prints of an input and a line end after it is what the script prints of the input.
-pub desk-prints : (input : List ℕ) {t : State} → Serves start (input ++ (10 ∷ [])) t → Prints input (t .text)
+pub desk-prints : (input : List ℕ) {t : State} {text : List ℕ} → Serves start (input ++ (10 ∷ [])) t text → Prints input text
 desk-prints input served =
     let so = follows-after (served .taken) starts in
     record {
       lines = so .lines;
       of-input = last-off (map (λ l. l .bytes) (so .lines)) (pieces 10 input) (so .rest) [] (sym (so .so-far) ∙ ap (pieces 10) (served .as-bytes) ∙ pieces-closed 10 input refl);
-      printed = ap (λ t. t .text) (sym (served .leads)) ∙ so .text-is;
+      printed = sym (served .prints) ∙ so .text-is;
     }
 
 -- The mission holds of the calls that the lines of any script say.

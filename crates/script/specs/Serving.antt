@@ -1,5 +1,5 @@
--- A desk byte by byte, as it runs: a register, what is kept of the line that has not ended, and what has been printed. Theorem `desk-prints` says that this
--- prints what the script does (`Prints`), in whatever pieces the bytes come.
+-- A desk byte by byte, as it runs: a register, and what is kept of the line that has not ended. Theorem `desk-prints` says that what it prints is what the script
+-- prints (`Prints`), in whatever pieces the bytes come.
 use Prim.Native.Nat.{ℕ}
 use mathlib.Core.Bool.{cond}
 use mathlib.Core.List.{List, [], _∷_, _++_, map}
@@ -7,6 +7,7 @@ use mathlib.Core.Path.{_≡_}
 use lib.Dec.{eqb}
 use lib.ListN.{take}
 use Rattle.register.specs.declared.Register.{Register}
+use Rattle.register.specs.Filing.{cleared}
 use Rattle.history.specs.Run.{afterCall, replyOf}
 use Rattle.said.specs.Said.{saidBy}
 use Rattle.replies.specs.Replies.{replyLine, unclearLine}
@@ -19,7 +20,10 @@ keptBytes = 301
 pub record State : Type 0 where
   pub register : Register
   pub line : List ℕ
-  pub text : List ℕ
+
+-- A desk that has just been opened.
+abbrev pub start : State
+start = record { register = cleared; line = [] }
 
 -- A byte of the input, and the bytes of the file that the line which it ends names: any, where it ends none or none is read.
 pub record Byte : Type 0 where
@@ -37,26 +41,37 @@ replyBy r nothing = []
 replyBy r unclear = unclearLine
 replyBy r (call c) = replyLine (replyOf r c)
 
--- A byte more of the line; the end of the line.
+-- The state after a byte: one byte more of the line, of which the first bytes are kept, or its end.
 abbrev pub kept : State → ℕ → State
-kept s b = record { register = s .register; line = take keptBytes (s .line ++ (b ∷ [])); text = s .text }
+kept s b = record { register = s .register; line = take keptBytes (s .line ++ (b ∷ [])) }
 
 abbrev pub ended : State → List ℕ → State
-ended s f = record {
-  register = registerBy (s .register) (askedBy (saidBy (s .line)) f);
-  line = [];
-  text = s .text ++ replyBy (s .register) (askedBy (saidBy (s .line)) f);
-}
+ended s f = record { register = registerBy (s .register) (askedBy (saidBy (s .line)) f); line = [] }
 
 unfoldable pub step : State → Byte → State
 step s x = cond (eqb (x .byte) 10) (ended s (x .file)) (kept s (x .byte))
 
+-- What is printed for a byte: the reply to the line that it ends.
+unfoldable pub printedBy : State → Byte → List ℕ
+printedBy s x = cond (eqb (x .byte) 10) (replyBy (s .register) (askedBy (saidBy (s .line)) (x .file))) []
+
+-- The same of bytes one after the other.
 unfoldable pub after : State → List Byte → State
 after s [] = s
 after s (x ∷ xs) = after (step s x) xs
 
--- Bytes that take a desk from one state to another, with some bytes for each file that is read.
-pub record Serves (s : State) (bytes : List ℕ) (t : State) : Type 0 where
+unfoldable pub printedFor : State → List Byte → List ℕ
+printedFor s [] = []
+printedFor s (x ∷ xs) = printedBy s x ++ printedFor (step s x) xs
+
+-- Bytes that take a desk from one state to another and have it print a text, with some bytes for each file that is read.
+pub record Serves (s : State) (bytes : List ℕ) (t : State) (text : List ℕ) : Type 0 where
   pub taken : List Byte
   pub as-bytes : map (λ x. x .byte) taken ≡ bytes
   pub leads : after s taken ≡ t
+  pub prints : printedFor s taken ≡ text
+
+-- The same of pieces one after the other: what is printed for each, and for all.
+pub data ServesPieces : State → List (List ℕ) → State → List ℕ → Type 0 where
+  no-piece : {s : State} → ServesPieces s [] s []
+  one-piece : {s t u : State} {p o o′ : List ℕ} {ps : List (List ℕ)} → Serves s p t o → ServesPieces t ps u o′ → ServesPieces s (p ∷ ps) u (o ++ o′)

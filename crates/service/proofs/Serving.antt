@@ -3,8 +3,8 @@ use Prim.Native.Nat.{ℕ, zero, suc, _+_, _*_, _/_, _≤_, _<_, min}
 use native.Mathlib.Numerals.{add-one}
 use native.Mathlib.Omega.{arith}
 use mathlib.Core.Bool.{Bool, true, false, cond}
-use mathlib.Core.List.{List, [], _∷_, _++_}
-use mathlib.Core.Path.{_≡_, refl, sym, ap, subst, _∙_}
+use mathlib.Core.List.{List, [], _∷_, _++_, append-nil}
+use mathlib.Core.Path.{_≡_, refl, sym, ap, _∙_}
 use lib.Dec.{eqb, ltb, leb}
 use borrow.Author.Tests.{ltb-true, ltb-false, leb-true, leb-false}
 use lib.ListN.{length, take, set, getD, length-set}
@@ -21,13 +21,13 @@ use Rattle.script.specs.declared.Responded.{Responded}
 use Rattle.script.specs.Contracts.{mayChange, answeredFrom}
 use Rattle.script.proofs.Responses.{changed-register, changed-text, kept-register, kept-text}
 use Rattle.script.specs.Script.{askedBy}
-use Rattle.script.specs.Serving.{keptBytes, State, Byte, registerBy, replyBy, kept, ended, step, Serves}
+use Rattle.script.specs.Serving.{keptBytes, State, Byte, registerBy, replyBy, kept, ended, step, printedBy, Serves}
 use Rattle.service.specs.Contracts.{keptCount, keptLine, Performed}
 use Rattle.script.proofs.Printing.{serves-none, serves-then, serves-byte}
 
 -- The state of a desk in the code's own values.
-abbrev pub stateBy : Register → List ℕ → ℕ → List ℕ → ℕ → State
-stateBy r line k out at = record { register = r; line = take k line; text = take at out }
+abbrev pub stateBy : Register → List ℕ → ℕ → State
+stateBy r line k = record { register = r; line = take k line }
 
 -- After i bytes of a piece, of which n are taken, from the state s on.
 pub record Serving (s : State) (piece : List ℕ) (n room : ℕ) (out : List ℕ) (r : Register) (v : View) (line : List ℕ) (k at i : ℕ) : Type 0 where
@@ -39,16 +39,17 @@ pub record Serving (s : State) (piece : List ℕ) (n room : ℕ) (out : List ℕ
   pub line-size : length line ≡ keptBytes
   pub line-most : k ≤ keptBytes
   pub seen : v ≡ viewOf r
-  pub so : Serves s (take i piece) (stateBy r line k out at)
+  pub so : Serves s (take i piece) (stateBy r line k) (take at out)
 
 module _ {s : State} {piece : List ℕ} {n room : ℕ} {out : List ℕ} {r : Register} {v : View} {line : List ℕ} {k at i : ℕ}
     (now : Serving s piece n room out r v line k at i) (turn : i < n) where
   -- One byte more.
-  one-more : (x : Byte) (t : State) → x .byte ≡ getD piece i 0 → step (stateBy r line k out at) x ≡ t → Serves s (take (i + 1) piece) t
-  one-more x t is leads =
+  one-more : (x : Byte) (t : State) (o : List ℕ) → x .byte ≡ getD piece i 0 → step (stateBy r line k) x ≡ t → take at out ++ printedBy (stateBy r line k) x ≡ o
+      → Serves s (take (i + 1) piece) t o
+  one-more x t o is leads prints =
       let inside : i < length piece = omega (arith, now .few) in
       let longer : take (i + 1) piece ≡ take i piece ++ (x .byte ∷ []) = rw (add-one, is) (take-suc piece i 0 inside) in
-      rw longer (subst (Serves s (take i piece ++ (x .byte ∷ []))) leads (serves-then (now .so) (serves-byte (stateBy r line k out at) x)))
+      rw (longer, ← leads, ← prints) (serves-then (now .so) (serves-byte (stateBy r line k) x))
 
   -- There is room for one reply more.
   pub reply-fits : at + replyRoom ≤ length out
@@ -58,7 +59,7 @@ module _ {s : State} {piece : List ℕ} {n room : ℕ} {out : List ℕ} {r : Reg
   pub serving-ended : {b at′ : ℕ} {out′ t : List ℕ} {said : Said} (f : List ℕ) {r′ : Register} {v′ : View} → b ≡ getD piece i 0 → eqb b 10 ≡ true
       → said ≡ saidBy (take k line) → r′ ≡ registerBy r (askedBy said f) → t ≡ replyBy r (askedBy said f)
       → Put out out′ at at′ t × (at′ ≤ at + replyRoom) → v′ ≡ viewOf r′ → Serving s piece n room out′ r′ v′ line 0 at′ (i + 1)
-  unfolding step
+  unfolding step printedBy
   serving-ended {b} {at′} {out′} {t} {said} f {r′} {v′} is end says after text (put, fits) seen =
       record {
         to = omega arith;
@@ -69,7 +70,7 @@ module _ {s : State} {piece : List ℕ} {n room : ℕ} {out : List ℕ} {r : Reg
         line-size = now .line-size;
         line-most = omega arith;
         seen = seen;
-        so = one-more (record { byte = b; file = f }) (stateBy r′ line 0 out′ at′) is (rw (end, put .puts, text, after, says));
+        so = one-more (record { byte = b; file = f }) (stateBy r′ line 0) (take at′ out′) is (rw (end, after, says)) (rw (end, put .puts, text, says));
       }
 
   -- One that may change the register, and one that does not.
@@ -92,7 +93,7 @@ module _ {s : State} {piece : List ℕ} {n room : ℕ} {out : List ℕ} {r : Reg
   -- A byte of a line that is kept, and one that is not.
   pub serving-kept : {b : ℕ} {line′ : List ℕ} → b ≡ getD piece i 0 → eqb b 10 ≡ false → k < keptBytes → line′ ≡ set line k b
       → Serving s piece n room out r v line′ (k + 1) at (i + 1)
-  unfolding step
+  unfolding step printedBy
   serving-kept {b} {line′} is other less put =
       let size = now .line-size in
       let longer : take (k + 1) (set line k b) ≡ take k line ++ (b ∷ []) = rw add-one (take-suc-set line k b (omega arith)) in
@@ -106,12 +107,12 @@ module _ {s : State} {piece : List ℕ} {n room : ℕ} {out : List ℕ} {r : Reg
         line-size = rw (put, length-set) (now .line-size);
         line-most = omega arith;
         seen = now .seen;
-        so = one-more (record { byte = b; file = [] }) (stateBy r line′ (k + 1) out at) is
-            (rw (other, put, longer) (ap (λ l. record { register = r; line = l; text = take at out }) (take-all keptBytes _ (rw longer at all))));
+        so = one-more (record { byte = b; file = [] }) (stateBy r line′ (k + 1)) (take at out) is
+            (rw (other, put, longer) (ap (λ l. record { register = r; line = l }) (take-all keptBytes _ (rw longer at all)))) (rw other (append-nil (take at out)));
       }
 
   pub serving-full : {b : ℕ} → b ≡ getD piece i 0 → eqb b 10 ≡ false → keptBytes ≤ k → Serving s piece n room out r v line k at (i + 1)
-  unfolding step
+  unfolding step printedBy
   serving-full {b} is other full =
       let size = now .line-size in
       let whole : k ≡ keptBytes = omega (arith, now .line-most) in
@@ -125,9 +126,10 @@ module _ {s : State} {piece : List ℕ} {n room : ℕ} {out : List ℕ} {r : Reg
         line-size = now .line-size;
         line-most = now .line-most;
         seen = now .seen;
-        so = one-more (record { byte = b; file = [] }) (stateBy r line k out at) is
-            (rw other (ap (λ l. record { register = r; line = l; text = take at out })
-            (take-append-le keptBytes (take k line) (b ∷ []) long ∙ take-all keptBytes (take k line) (omega (arith, length-take-le k line (omega arith))))));
+        so = one-more (record { byte = b; file = [] }) (stateBy r line k) (take at out) is
+            (rw other (ap (λ l. record { register = r; line = l })
+            (take-append-le keptBytes (take k line) (b ∷ []) long ∙ take-all keptBytes (take k line) (omega (arith, length-take-le k line (omega arith))))))
+            (rw other (append-nil (take at out)));
       }
 
   -- Either, as the code keeps bytes.
@@ -141,7 +143,7 @@ module _ {s : State} {piece : List ℕ} {n room : ℕ} {out : List ℕ} {r : Reg
 
 -- Before the first byte, from the kept bytes of a desk.
 pub serving-none : {piece out : List ℕ} {r : Register} {v : View} {line : List ℕ} {n k : ℕ} → n ≡ min (length piece) (length out / replyRoom) → length line ≡ keptBytes
-    → k ≤ keptBytes → v ≡ viewOf r → Serving (stateBy r line k out 0) piece n (length out) out r v line k 0 0
+    → k ≤ keptBytes → v ≡ viewOf r → Serving (stateBy r line k) piece n (length out) out r v line k 0 0
 serving-none {piece} {out} {r} {line = line} {n = n} {k = k} is size most seen =
     record {
       to = omega arith;
@@ -152,7 +154,7 @@ serving-none {piece} {out} {r} {line = line} {n = n} {k = k} is size most seen =
       line-size = size;
       line-most = most;
       seen = seen;
-      so = serves-none (stateBy r line k out 0);
+      so = serves-none (stateBy r line k);
     }
 
 -- After the last byte: no more bytes of a desk's line are there than are kept.
@@ -170,10 +172,10 @@ module _ {s : State} {piece : List ℕ} {n room : ℕ} {out : List ℕ} {r : Reg
   pub printed-fits : at ≤ length out
   printed-fits = omega (arith, now .to, now .most, now .roomy, now .same-room)
 
-  all-served : Serves s (take n piece) (stateBy r line k out at)
+  all-served : Serves s (take n piece) (stateBy r line k) (take at out)
   all-served = let all : i ≡ n = omega (arith, now .to) in rw all at (now .so)
 
-pub serving-all : (r₀ : Register) (line₀ out₀ : List ℕ) (k₁ : ℕ) {k₀ : ℕ} {piece : List ℕ} {n room : ℕ} {out : List ℕ} {r : Register} {v : View} {line : List ℕ} {k at i : ℕ}
-    → k₀ ≡ min k₁ keptBytes → length line₀ ≡ keptBytes → Serving (stateBy r₀ line₀ k₀ out₀ 0) piece n room out r v line k at i → n ≤ i
-    → Serves (record { register = r₀; line = take k₁ line₀; text = [] }) (take n piece) (stateBy r line k out at)
-serving-all r₀ line₀ out₀ k₁ is size now done = rw (is, kept-least line₀ k₁ size) at (all-served now done)
+pub serving-all : (r₀ : Register) (line₀ : List ℕ) (k₁ : ℕ) {k₀ : ℕ} {piece : List ℕ} {n room : ℕ} {out : List ℕ} {r : Register} {v : View} {line : List ℕ} {k at i : ℕ}
+    → k₀ ≡ min k₁ keptBytes → length line₀ ≡ keptBytes → Serving (stateBy r₀ line₀ k₀) piece n room out r v line k at i → n ≤ i
+    → Serves (stateBy r₀ line₀ k₁) (take n piece) (stateBy r line k) (take at out)
+serving-all r₀ line₀ k₁ is size now done = rw (is, kept-least line₀ k₁ size) at (all-served now done)

@@ -1,15 +1,17 @@
 -- The name of a filing's file, the change that a filing makes, and the bytes that are kept of a line.
 use Prim.Native.Nat.{ℕ, _+_}
-use mathlib.Core.Bool.{cond}
-use mathlib.Core.List.{List}
+use mathlib.Core.Bool.{false, cond}
+use mathlib.Core.List.{List, []}
 use mathlib.Core.Path.{_≡_}
 use lib.Dec.{ltb}
 use lib.ListN.{length, set}
 use Rattle.register.specs.declared.Register.{Register}
+use Rattle.register.specs.Questions.{hasModel}
 use Rattle.said.specs.declared.Said.{Said}
 use Rattle.said.specs.declared.Said.the-variants as Says
 use Rattle.said.specs.Said.{modelWord, deliveryWord}
 use Rattle.script.specs.declared.Responded.{Responded}
+use Rattle.script.specs.Script.{readsFile}
 use Rattle.script.specs.Serving.{keptBytes}
 use Rattle.script.specs.Contracts.{changedBy}
 
@@ -26,9 +28,10 @@ nameFrom (Says.Steps p z) = 0
 nameFrom Says.Margin = 0
 nameFrom (Says.Live p z q) = 0
 
--- The change was made, with some bytes for the file.
+-- The change was made, with some bytes for the file, and none where it is not read.
 pub record Performed (r : Register) (s : Said) (x : Responded) : Type 0 where
   pub file : List ℕ
+  pub unread : readsFile (hasModel r) s ≡ false → file ≡ []
   pub is : x ≡ changedBy r s file
 
 -- How many bytes are kept of a line with one byte more, and where it lies.

@@ -1,22 +1,16 @@
 -- A desk as the code keeps it, and what serving a piece of input is.
 use Prim.Native.Nat.{ℕ, _/_, _≤_, min}
-use mathlib.Core.List.{List, []}
+use mathlib.Core.List.{List}
 use mathlib.Core.Path.{_≡_}
 use lib.ListN.{length, take}
-use Rattle.register.specs.Filing.{cleared}
 use Rattle.replies.specs.Contracts.{replyRoom}
 use Rattle.script.specs.Serving.{State, Serves}
 use Rattle.service.specs.declared.Desk.{Desk}
 use Rattle.service.specs.declared.Served.{Served}
 
--- The state of a desk that has printed this text.
-abbrev pub stateOf : Desk → List ℕ → State
-stateOf d t = record { register = d .register; line = take (d .kept) (d .line); text = t }
-
--- A desk whose register holds nothing, at the start of a line.
-pub record Opened (d : Desk) : Type 0 where
-  pub empty : d .register ≡ cleared
-  pub line-start : d .kept ≡ 0
+-- The state of a desk.
+abbrev pub stateOf : Desk → State
+stateOf d = record { register = d .register; line = take (d .kept) (d .line) }
 
 -- A piece of input was served, with some bytes for each file that was read: which ones the system hands out, no contract can say. As many of its
 -- bytes are taken as `before`, the room for replies, surely has room for the replies to: all of a piece, if there are `replyRoom` bytes for each. What
@@ -25,4 +19,4 @@ pub record Took (d : Desk) (piece before after : List ℕ) (r : Served) : Type 0
   pub as-many : r .taken ≡ min (length piece) (length before / replyRoom)
   pub size : length after ≡ length before
   pub fits : r .printed ≤ length after
-  pub serves : Serves (stateOf d []) (take (r .taken) piece) (stateOf (r .desk) (take (r .printed) after))
+  pub serves : Serves (stateOf d) (take (r .taken) piece) (stateOf (r .desk)) (take (r .printed) after)

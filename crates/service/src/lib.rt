@@ -14,8 +14,8 @@ use script::reads_file;
 ghost use mathlib.Core.Path.{_≡_};
 ghost use Prim.Native.Nat.{min};
 ghost use Rattle.io.specs.Counts.{Counts};
-ghost use Rattle.register.specs.Filing.{cleared};
-ghost use Rattle.service.specs.Service.{Opened, Took};
+ghost use Rattle.script.specs.Serving.{start};
+ghost use Rattle.service.specs.Service.{stateOf, Took};
 ghost use Rattle.service.specs.Contracts.{nameFrom, Performed, keptCount, keptLine};
 
 // The bytes that are kept of a line: one more than a line that says a call may have.
@@ -37,7 +37,7 @@ pub struct Served {
 
 // A desk whose register holds nothing, at the start of a line.
 pub fn opened() -> Desk
-    ensures { λ r. ⌜ Opened r ⌝ }
+    ensures { λ r. ⌜ stateOf r ≡ start ⌝ }
 {
     Desk {
         register: Register::empty(),

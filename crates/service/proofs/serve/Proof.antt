@@ -4,7 +4,6 @@ use native.Mathlib.Omega.{arith}
 use mathlib.Core.Path.{_≡_, refl, sym, ap, _∙_}
 use lib.ListN.{length, length-map}
 use lib.Seq.{length-take-le}
-use denote.Ref.{now}
 use borrow.Author.Tests.{eq-eqb, ne-eqb}
 use borrow.Author.Needs.{needs}
 use Rattle.service.proofs.Serving.{stateBy, Serving, serving-none, reply-fits, serving-pushed, serving-changed, serving-answered, printed-fits, serving-all}
@@ -23,7 +22,7 @@ use Rattle.service.proofs.perform.Reads as perform-reads
 
 abbrev Inv-loop : tie.InvT-loop
 Inv-loop piece out₀ taken register₀ view₀ line₀ kept₀ at₀ i₀ out register view line kept at i =
-    Serving (stateBy register₀ line₀ kept₀ out₀ 0) piece taken (length out₀) out register view line kept at i
+    Serving (stateBy register₀ line₀ kept₀) piece taken (length out₀) out register view line kept at i
 
 abbrev μ-loop : tie.MeasureT-loop
 μ-loop piece out₀ taken register₀ view₀ line₀ kept₀ at₀ i₀ out register view line kept at i = taken - i
@@ -136,7 +135,7 @@ returns c =
       as-many = taken .least .ensures;
       size = so .same-room;
       fits = printed-fits so (c .loop-test .left);
-      serves = serving-all (start .args .desk .register) (start .args .desk .line) (now (start .args .out)) (start .args .desk .kept) (kept .least2 .ensures) (line-size start) so (c .loop-test .left);
+      serves = serving-all (start .args .desk .register) (start .args .desk .line) (start .args .desk .kept) (kept .least2 .ensures) (line-size start) so (c .loop-test .left);
     }
 
 pub serve-spec : {M : Type 1} → statement M
