@@ -9,7 +9,7 @@ use lib.ListN.{take}
 use Rattle.text.specs.Reading.{pieces}
 use Rattle.calls.specs.Calls.{Call}
 use Rattle.history.specs.Plain.{Event, pairOf, plainReply}
-use Rattle.history.specs.Run.{registerAfter, history}
+use Rattle.history.specs.Run.{registerAfter, replyTo, history}
 use Rattle.history.specs.Mission.{Mission}
 use Rattle.history.proofs.Plain.{as-plain-pair}
 use Rattle.history.proofs.Mission.{mission}
@@ -193,6 +193,23 @@ desk-prints input served =
       of-input = last-off (map (λ l. l .bytes) (so .lines)) (pieces 10 input) (so .rest) [] (sym (so .so-far) ∙ ap (pieces 10) (served .as-bytes) ∙ pieces-closed 10 input refl);
       printed = sym (served .prints) ∙ so .text-is;
     }
+
+-- The reply to a line that says a call is that of a register after the calls that the lines before it say; of these the mission holds.
+printed-lines : (es : List Event) (ls ms : List Line) → printedAfter es (ls ++ ms) ≡ printedAfter es ls ++ printedAfter (eventsAfter es ls) ms
+unfolding printedAfter eventsAfter
+printed-lines es [] ms = refl
+printed-lines es (k ∷ ls) ms =
+    ap (λ t. textBy es (asks k) ++ t) (printed-lines (eventsBy es (asks k)) ls ms)
+    ∙ sym (append-assoc (textBy es (asks k)) (printedAfter (eventsBy es (asks k)) ls) (printedAfter (eventsAfter (eventsBy es (asks k)) ls) ms))
+
+pub reply-in-its-place : (ls : List Line) (l : Line) (c : Call) (ms : List Line) → asks l ≡ call c
+    → printedAfter [] (ls ++ (l ∷ ms))
+    ≡ printedAfter [] ls ++ (replyLine (replyTo (callsAfter [] ls) c) ++ printedAfter (history (c ∷ callsAfter [] ls)) ms)
+unfolding printedAfter history
+reply-in-its-place ls l c ms is =
+    printed-lines [] ls (l ∷ ms)
+    ∙ ap (λ es. printedAfter [] ls ++ (textBy es (asks l) ++ printedAfter (eventsBy es (asks l)) ms)) (sym (history-after [] ls))
+    ∙ rw (is, ← as-plain-pair (callsAfter [] ls) c)
 
 -- The mission holds of the calls that the lines of any script say.
 pub script-mission : (ls : List Line) → Mission (callsAfter [] ls)
