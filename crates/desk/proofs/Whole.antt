@@ -9,7 +9,7 @@ use Rattle.replies.specs.Contracts.{replyRoom}
 use Rattle.service.specs.declared.Desk.{Desk}
 use Rattle.service.specs.declared.Served.{Served}
 use Rattle.service.specs.Service.{Took}
-use Rattle.desk.specs.Desk.{TookAll}
+use Rattle.desk.specs.Contracts.{TookAll}
 
 pub took-all : {d : Desk} {piece before after : List ℕ} {r : Served} → length piece * replyRoom ≤ length before → Took d piece before after r → TookAll d piece after r
 took-all {piece = piece} {before} {r = r} room took =

@@ -9,7 +9,7 @@ ghost use mathlib.Core.Path.{_≡_};
 ghost use Prim.Native.Nat.{_*_, _≤_};
 ghost use lib.ListN.{length};
 ghost use Rattle.replies.specs.Contracts.{replyRoom};
-ghost use Rattle.desk.specs.Desk.{pieceBytes, roomBytes, TookAll};
+ghost use Rattle.desk.specs.Contracts.{pieceBytes, roomBytes, TookAll};
 
 // The most bytes that are read at once, and room for the replies to as many lines.
 const PIECE: usize = 16_384;

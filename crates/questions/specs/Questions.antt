@@ -9,24 +9,24 @@ use Rattle.held.specs.Places.{hasRow, hasEntry, rowValue, entryValue}
 use Rattle.questions.specs.declared.Shown.{Shown}
 
 -- An entry's upper, its lower, a row's mean steps, the margin, and an entry's live mark, which needs a model only; the numbers by the list l, in file order.
-abbrev pub upperOf : Shown → List ℕ → ℕ → ℕ → ℕ → Answer
-upperOf h l p z q =
+abbrev pub upperAnswer : Shown → List ℕ → ℕ → ℕ → ℕ → Answer
+upperAnswer h l p z q =
     answered (holdsModel (h .length)) (isHeld (h .delivery)) (hasEntry (h .states) (h .symbols) p z q) true
     (entryValue (h .states) (h .symbols) l p z q)
 
-abbrev pub lowerOf : Shown → List ℕ → ℕ → ℕ → ℕ → Answer
-lowerOf h l p z q =
+abbrev pub lowerAnswer : Shown → List ℕ → ℕ → ℕ → ℕ → Answer
+lowerAnswer h l p z q =
     answered (holdsModel (h .length)) (isHeld (h .delivery)) (hasEntry (h .states) (h .symbols) p z q) (lowersStand (h .delivery))
     (entryValue (h .states) (h .symbols) l p z q)
 
-abbrev pub meanOf : Shown → List ℕ → ℕ → ℕ → Answer
-meanOf h l p z =
+abbrev pub meanAnswer : Shown → List ℕ → ℕ → ℕ → Answer
+meanAnswer h l p z =
     answered (holdsModel (h .length)) (isHeld (h .delivery)) (hasRow (h .states) (h .symbols) p z) (meansStand (h .delivery))
     (rowValue (h .states) (h .symbols) l p z)
 
-abbrev pub marginOf : Shown → Answer
-marginOf h = answered (holdsModel (h .length)) (isHeld (h .delivery)) true (lowersStand (h .delivery)) (h .margin)
+abbrev pub marginAnswer : Shown → Answer
+marginAnswer h = answered (holdsModel (h .length)) (isHeld (h .delivery)) true (lowersStand (h .delivery)) (h .margin)
 
-abbrev pub liveOf : Shown → List ℕ → ℕ → ℕ → ℕ → Answer
-liveOf h l p z q =
+abbrev pub liveAnswer : Shown → List ℕ → ℕ → ℕ → ℕ → Answer
+liveAnswer h l p z q =
     answered (holdsModel (h .length)) true (hasEntry (h .states) (h .symbols) p z q) true (entryValue (h .states) (h .symbols) l p z q)

@@ -14,7 +14,7 @@ use held::places::row_value;
 use held::places::sizes_held;
 use model::format::MOST_ENTRIES;
 ghost use mathlib.Core.Path.{_≡_};
-ghost use Rattle.questions.specs.Questions.{upperOf, lowerOf, meanOf, marginOf, liveOf};
+ghost use Rattle.questions.specs.Questions.{upperAnswer, lowerAnswer, meanAnswer, marginAnswer, liveAnswer};
 
 // What is held, but for the lists of numbers: the length of the model's file, 0 where none is held, its sizes, the delivery's shape and its margin.
 pub struct Shown {
@@ -36,7 +36,7 @@ pub struct View {
 
 // The upper of an entry.
 pub fn upper(held: Shown, uppers: &[u32; MOST_ENTRIES], p: usize, z: usize, q: usize) -> Answer
-    ensures { λ r. ⌜ r ≡ upperOf held (now (uppers .entry)) p z q ⌝ }
+    ensures { λ r. ⌜ r ≡ upperAnswer held (now (uppers .entry)) p z q ⌝ }
 {
     let n = sizes_held(held.states, held.symbols);
     let value = entry_value(uppers, n, p, z, q);
@@ -53,7 +53,7 @@ pub fn upper(held: Shown, uppers: &[u32; MOST_ENTRIES], p: usize, z: usize, q: u
 
 // The lower of an entry.
 pub fn lower(held: Shown, lowers: &[u32; MOST_ENTRIES], p: usize, z: usize, q: usize) -> Answer
-    ensures { λ r. ⌜ r ≡ lowerOf held (now (lowers .entry)) p z q ⌝ }
+    ensures { λ r. ⌜ r ≡ lowerAnswer held (now (lowers .entry)) p z q ⌝ }
 {
     let n = sizes_held(held.states, held.symbols);
     let value = entry_value(lowers, n, p, z, q);
@@ -70,7 +70,7 @@ pub fn lower(held: Shown, lowers: &[u32; MOST_ENTRIES], p: usize, z: usize, q: u
 
 // The mean steps of a row.
 pub fn mean_steps(held: Shown, means: &[u32; MOST_ENTRIES], p: usize, z: usize) -> Answer
-    ensures { λ r. ⌜ r ≡ meanOf held (now (means .entry)) p z ⌝ }
+    ensures { λ r. ⌜ r ≡ meanAnswer held (now (means .entry)) p z ⌝ }
 {
     let n = sizes_held(held.states, held.symbols);
     let value = row_value(means, n, p, z);
@@ -87,7 +87,7 @@ pub fn mean_steps(held: Shown, means: &[u32; MOST_ENTRIES], p: usize, z: usize) 
 
 // The margin.
 pub fn margin(held: Shown) -> Answer
-    ensures { λ r. ⌜ r ≡ marginOf held ⌝ }
+    ensures { λ r. ⌜ r ≡ marginAnswer held ⌝ }
 {
     let length = held.length;
     let delivery = held.delivery;
@@ -103,7 +103,7 @@ pub fn margin(held: Shown) -> Answer
 
 // The live mark of an entry, which needs a model only.
 pub fn live(held: Shown, marks: &[u32; MOST_ENTRIES], p: usize, z: usize, q: usize) -> Answer
-    ensures { λ r. ⌜ r ≡ liveOf held (now (marks .entry)) p z q ⌝ }
+    ensures { λ r. ⌜ r ≡ liveAnswer held (now (marks .entry)) p z q ⌝ }
 {
     let n = sizes_held(held.states, held.symbols);
     let value = entry_value(marks, n, p, z, q);

@@ -6,7 +6,7 @@ use Rattle.register.specs.declared.Register.{Register}
 use Rattle.held.specs.Held.{holdsModel}
 use Rattle.questions.specs.declared.Shown.{Shown}
 use Rattle.questions.specs.declared.View.{View}
-use Rattle.questions.specs.Questions.{upperOf, lowerOf, meanOf, marginOf, liveOf}
+use Rattle.questions.specs.Questions.{upperAnswer, lowerAnswer, meanAnswer, marginAnswer, liveAnswer}
 
 -- Whether a model is held: where one is, filing a model is refused by 41, and where none is, all else is by 40.
 unfoldable pub hasModel : Register → Bool
@@ -34,16 +34,16 @@ viewOf r = record {
 
 -- An entry's upper, its lower, a row's mean steps, the margin, and an entry's live mark.
 unfoldable pub upperIn : Register → ℕ → ℕ → ℕ → Answer
-upperIn r p z q = upperOf (shownOf r) (r .numbers .uppers) p z q
+upperIn r p z q = upperAnswer (shownOf r) (r .numbers .uppers) p z q
 
 unfoldable pub lowerIn : Register → ℕ → ℕ → ℕ → Answer
-lowerIn r p z q = lowerOf (shownOf r) (r .numbers .lowers) p z q
+lowerIn r p z q = lowerAnswer (shownOf r) (r .numbers .lowers) p z q
 
 unfoldable pub meanIn : Register → ℕ → ℕ → Answer
-meanIn r p z = meanOf (shownOf r) (r .numbers .means) p z
+meanIn r p z = meanAnswer (shownOf r) (r .numbers .means) p z
 
 unfoldable pub marginIn : Register → Answer
-marginIn r = marginOf (shownOf r)
+marginIn r = marginAnswer (shownOf r)
 
 unfoldable pub liveIn : Register → ℕ → ℕ → ℕ → Answer
-liveIn r p z q = liveOf (shownOf r) (r .model .live) p z q
+liveIn r p z q = liveAnswer (shownOf r) (r .model .live) p z q

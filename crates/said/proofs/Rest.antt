@@ -16,7 +16,7 @@ use Rattle.said.specs.declared.arguments.Numbers.the-variants.{Two, Thre
 use Rattle.said.specs.declared.spelling.Number.{Number}
 use Rattle.said.specs.declared.spelling.Number.the-variants.{Is, Not}
 use Rattle.said.specs.Said.{every, isDigit, isNumber, isName, alone, isFile, onRow, onEntry}
-use Rattle.said.specs.Contracts.{wordEnd, argumentsIn, numberOf, twoOf, threeOf, afterFirst, numbersOf}
+use Rattle.said.specs.Contracts.{wordEnd, argumentsIn, numberAs, twoOf, threeOf, afterFirst, numbersOf}
 use Rattle.said.proofs.Words.{end-within, pieces-split, pieces-one, pieces-more, digits-end}
 
 -- ---- no words, and one
@@ -82,8 +82,8 @@ file-by rest text e h k =
 -- ---- numbers
 
 -- A text with a space in it is no number.
-spaced-not : (text : List ℕ) → wordEnd text < length text → numberOf text ≡ Not
-unfolding numberOf isNumber
+spaced-not : (text : List ℕ) → wordEnd text < length text → numberAs text ≡ Not
+unfolding numberAs isNumber
 spaced-not text h = go (every isDigit text) refl
   where
     go : (t : Bool) → every isDigit text ≡ t → cond ((leb 1 (length text) && leb (length text) 9) && t) (Is (numberIn text)) Not ≡ Not
@@ -96,11 +96,11 @@ three-not (Is a) Not = refl
 three-not Not y = refl
 
 module _ (x : Number) (text : List ℕ) (e : ℕ) (end : e ≡ wordEnd text) where
-  after-one : e ≡ length text → afterFirst x (pieces 32 text) ≡ twoOf x (numberOf (take e text))
+  after-one : e ≡ length text → afterFirst x (pieces 32 text) ≡ twoOf x (numberAs (take e text))
   unfolding afterFirst
   after-one all = rw (pieces-one text (sym end ∙ all), all, take-length)
 
-  after-two : e < length text → afterFirst x (pieces 32 text) ≡ threeOf x (numberOf (take e text)) (numberOf (drop (e + 1) text))
+  after-two : e < length text → afterFirst x (pieces 32 text) ≡ threeOf x (numberAs (take e text)) (numberAs (drop (e + 1) text))
   unfolding afterFirst
   after-two h = rw (end, pieces-more text (rw end at h)) (go (eqb (wordEnd third) (length third)) refl)
     where
@@ -108,18 +108,18 @@ module _ (x : Number) (text : List ℕ) (e : ℕ) (end : e ≡ wordEnd text) whe
       third = drop (wordEnd text + 1) text
 
       go : (t : Bool) → eqb (wordEnd third) (length third) ≡ t
-          → afterFirst x (take (wordEnd text) text ∷ pieces 32 third) ≡ threeOf x (numberOf (take (wordEnd text) text)) (numberOf third)
+          → afterFirst x (take (wordEnd text) text ∷ pieces 32 third) ≡ threeOf x (numberAs (take (wordEnd text) text)) (numberAs third)
       go true q = rw (pieces-one third (eqb-true (wordEnd third) (length third) q))
       go false q =
           let more : wordEnd third < length third = omega (arith, end-within third, eqb-false (wordEnd third) (length third) q) in
-          rw (pieces-more third more, pieces-split (drop (wordEnd third + 1) third), spaced-not third more) (sym (three-not x (numberOf (take (wordEnd text) text))))
+          rw (pieces-more third more, pieces-split (drop (wordEnd third + 1) third), spaced-not third more) (sym (three-not x (numberAs (take (wordEnd text) text))))
 
   -- After a first number: one word that is the text, or a word and what stands after its space as another.
-  module _ {y : Number} (second : y ≡ numberOf (take e text)) where
+  module _ {y : Number} (second : y ≡ numberAs (take e text)) where
     pub second-last : e ≡ length text → {r : Numbers} → r ≡ twoOf x y → r ≡ afterFirst x (pieces 32 text)
     second-last all made = made ∙ rw second (sym (after-one all))
 
-    pub third-last : e ≤ length text → (e ≡ length text → ⊥) → {z : Number} → z ≡ numberOf (take (length text - (e + 1)) (drop (e + 1) text))
+    pub third-last : e ≤ length text → (e ≡ length text → ⊥) → {z : Number} → z ≡ numberAs (take (length text - (e + 1)) (drop (e + 1) text))
         → {r : Numbers} → r ≡ threeOf x y z → r ≡ afterFirst x (pieces 32 text)
     third-last within n third made =
         made ∙ rw (second, third, part-from (e + 1) text) (sym (after-two (omega (arith, n))))
@@ -138,11 +138,11 @@ module _ (rest text : List ℕ) (e : ℕ) (part : text ≡ drop 1 rest) (some : 
   unfolding numbersOf afterFirst
   numbers-one all = rw (words-are, pieces-one text (sym end ∙ all))
 
-  numbers-more : e < length text → numbersOf (argumentsIn rest) ≡ afterFirst (numberOf (take e text)) (pieces 32 (drop (e + 1) text))
+  numbers-more : e < length text → numbersOf (argumentsIn rest) ≡ afterFirst (numberAs (take e text)) (pieces 32 (drop (e + 1) text))
   unfolding numbersOf
   numbers-more h = rw (words-are, end, pieces-more text (rw end at h))
 
-  pub first-found : e ≤ length text → (e ≡ length text → ⊥) → {x : Number} → x ≡ numberOf (take e text) → {r : Numbers}
+  pub first-found : e ≤ length text → (e ≡ length text → ⊥) → {x : Number} → x ≡ numberAs (take e text) → {r : Numbers}
       → r ≡ afterFirst x (pieces 32 (take (length text - (e + 1)) (drop (e + 1) text))) → r ≡ numbersOf (argumentsIn rest)
   first-found within n first made = made ∙ rw (first, part-from (e + 1) text) (sym (numbers-more (omega (arith, n))))
 
@@ -184,19 +184,19 @@ three-no-row call (Is a) Not z = refl
 three-no-row call Not y z = refl
 
 pub entry-said : (call : ℕ → ℕ → ℕ → Said) (ws : List (List ℕ)) → onEntry call ws ≡ entrySaid call (numbersOf ws)
-unfolding numbersOf afterFirst numberOf
+unfolding numbersOf afterFirst numberAs
 entry-said call [] = refl
 entry-said call (p ∷ []) = refl
-entry-said call (p ∷ z ∷ []) = two-no-entry call (numberOf p) (numberOf z)
+entry-said call (p ∷ z ∷ []) = two-no-entry call (numberAs p) (numberAs z)
 entry-said call (p ∷ z ∷ q ∷ []) = three-flags call (isNumber p) (isNumber z) (isNumber q) (numberIn p) (numberIn z) (numberIn q)
 entry-said call (p ∷ z ∷ q ∷ w ∷ ws) = refl
 
 pub row-said : (call : ℕ → ℕ → Said) (ws : List (List ℕ)) → onRow call ws ≡ rowSaid call (numbersOf ws)
-unfolding numbersOf afterFirst numberOf
+unfolding numbersOf afterFirst numberAs
 row-said call [] = refl
 row-said call (p ∷ []) = refl
 row-said call (p ∷ z ∷ []) = two-flags call (isNumber p) (isNumber z) (numberIn p) (numberIn z)
-row-said call (p ∷ z ∷ q ∷ []) = three-no-row call (numberOf p) (numberOf z) (numberOf q)
+row-said call (p ∷ z ∷ q ∷ []) = three-no-row call (numberAs p) (numberAs z) (numberAs q)
 row-said call (p ∷ z ∷ q ∷ w ∷ ws) = refl
 
 -- What is said by numbers that the code has found.

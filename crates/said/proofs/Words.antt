@@ -13,7 +13,7 @@ use borrow.Author.Tests.{eqb-true, eq-eqb, ne-eqb, leb-true, le-leb, lt-leb}
 use Rattle.text.specs.Reading.{pieces, inFront, numberAfter, numberIn}
 use Rattle.said.specs.declared.spelling.Number.the-variants.{Is, Not}
 use Rattle.said.specs.Said.{same, every, isPrintable, isDigit, isPlain, isSilent, isNumber}
-use Rattle.said.specs.Contracts.{wordEnd, argumentsIn, numberOf}
+use Rattle.said.specs.Contracts.{wordEnd, argumentsIn, numberAs}
 
 -- ---- one byte more of a text, from byte i on
 
@@ -136,21 +136,21 @@ unfolding isPlain
 plain-short l h = rw (le-leb (length l) 300 h)
 
 -- A word is a number where it has 1 to 9 bytes and every one is a digit.
-pub number-short : (w : List ℕ) → length w < 1 → numberOf w ≡ Not
-unfolding numberOf isNumber
+pub number-short : (w : List ℕ) → length w < 1 → numberAs w ≡ Not
+unfolding numberAs isNumber
 number-short w h = rw (lt-leb 1 (length w) h)
 
-pub number-long : (w : List ℕ) → 9 < length w → numberOf w ≡ Not
-unfolding numberOf isNumber
+pub number-long : (w : List ℕ) → 9 < length w → numberAs w ≡ Not
+unfolding numberAs isNumber
 number-long w h = rw (le-leb 1 (length w) (omega arith), lt-leb (length w) 9 h)
 
 module _ (w : List ℕ) (some : 1 ≤ length w) (most : length w ≤ 9) where
-  pub number-not : every isDigit w ≡ false → numberOf w ≡ Not
-  unfolding numberOf isNumber
+  pub number-not : every isDigit w ≡ false → numberAs w ≡ Not
+  unfolding numberAs isNumber
   number-not e = rw (le-leb 1 (length w) some, le-leb (length w) 9 most, e)
 
-  pub number-is : every isDigit w ≡ true → {n : ℕ} → numberIn w ≡ n → numberOf w ≡ Is n
-  unfolding numberOf isNumber
+  pub number-is : every isDigit w ≡ true → {n : ℕ} → numberIn w ≡ n → numberAs w ≡ Is n
+  unfolding numberAs isNumber
   number-is e q = rw (le-leb 1 (length w) some, le-leb (length w) 9 most, e, q)
 
 -- ---- the words of a text

@@ -23,8 +23,8 @@ argumentsIn [] = []
 argumentsIn (x ∷ xs) = pieces 32 xs
 
 -- A word as a number.
-unfoldable pub numberOf : List ℕ → Number
-numberOf w = cond (isNumber w) (Is (numberIn w)) Not
+unfoldable pub numberAs : List ℕ → Number
+numberAs w = cond (isNumber w) (Is (numberIn w)) Not
 
 abbrev pub twoOf : Number → Number → Numbers
 twoOf (Is a) (Is b) = Two a b
@@ -40,13 +40,13 @@ threeOf Not y z = Other
 -- A first number with the words after it, and all words, as numbers.
 unfoldable pub afterFirst : Number → List (List ℕ) → Numbers
 afterFirst x [] = Other
-afterFirst x (b ∷ []) = twoOf x (numberOf b)
-afterFirst x (b ∷ c ∷ []) = threeOf x (numberOf b) (numberOf c)
+afterFirst x (b ∷ []) = twoOf x (numberAs b)
+afterFirst x (b ∷ c ∷ []) = threeOf x (numberAs b) (numberAs c)
 afterFirst x (b ∷ c ∷ w ∷ ws) = Other
 
 unfoldable pub numbersOf : List (List ℕ) → Numbers
 numbersOf [] = Other
-numbersOf (a ∷ ws) = afterFirst (numberOf a) ws
+numbersOf (a ∷ ws) = afterFirst (numberAs a) ws
 
 -- A line of two words, the first of which is the word of a filing: the second, a file's name, is all that stands after the word and its space. It has 1 to 255 bytes,
 -- none of them a space (it is one word) or a control byte.

@@ -5,7 +5,7 @@ ghost use mathlib.Core.Bool.{true};
 ghost use Prim.Native.Nat.{_+_, _-_, _*_, _^_, _≤_, _<_};
 ghost use lib.ListN.{length};
 ghost use Rattle.said.specs.Said.{same, isPlain, isPrintable, isDigit};
-ghost use Rattle.said.specs.Contracts.{wordEnd, numberOf};
+ghost use Rattle.said.specs.Contracts.{wordEnd, numberAs};
 
 // The most bytes of a line that says a call, and of a number.
 pub const MOST_BYTES: usize = 300;
@@ -90,7 +90,7 @@ fn with_digit(n: usize, digit: u8) -> usize
 
 // The number that a word is: 1 to 9 decimal digits.
 pub(crate) fn number_of(word: &[u8]) -> Number
-    ensures { λ r. ⌜ r ≡ numberOf (now (word .entry)) ⌝ }
+    ensures { λ r. ⌜ r ≡ numberAs (now (word .entry)) ⌝ }
 {
     if word.len() == 0 {
         return Number::Not;

@@ -3,7 +3,7 @@ use Prim.Native.Nat.{ℕ, zero, suc}
 use native.Mathlib.Omega.{arith}
 use mathlib.Core.Bool.{Bool, true, false, cond}
 use mathlib.Core.List.{List, [], _∷_, _++_, map, flatten, append-nil, append-assoc}
-use mathlib.Core.Path.{_≡_, refl, sym, ap, ap₂, _∙_}
+use mathlib.Core.Path.{_≡_, refl, sym, ap, ap₂, subst, _∙_}
 use lib.Dec.{eqb}
 use lib.ListN.{take}
 use Rattle.text.specs.Reading.{pieces}
@@ -17,7 +17,7 @@ use Rattle.said.specs.Said.{saidBy}
 use Rattle.said.proofs.Meaning.{kept-says}
 use Rattle.replies.specs.Replies.{replyLine}
 use Rattle.script.specs.Script.{Line, Asked, nothing, unclear, call, askedBy, asks, eventsBy, textBy, printedAfter, callsBy, callsAfter, Prints}
-use Rattle.script.specs.Serving.{keptBytes, State, start, Byte, registerBy, replyBy, kept, ended, step, printedBy, after, printedFor, Serves, ServesPieces, no-piece, one-piece}
+use Rattle.script.specs.Serving.{keptBytes, State, atStart, Byte, registerBy, replyBy, longer, lineEnded, byteTaken, printedBy, afterBytes, printedFor, Serves, ServesPieces, no-piece, one-piece}
 use Rattle.script.proofs.Pieces.{piece-longer, piece-ended, pieces-closed, last-off}
 
 -- ---- one line
@@ -85,12 +85,12 @@ take-kept zero l k = refl
 take-kept (suc n) [] k = refl
 take-kept (suc n) (x ∷ l) k = ap (λ t. x ∷ t) (take-kept n l k)
 
-starts : Follows [] start []
+starts : Follows [] atStart []
 unfolding pieces registerAfter callsAfter printedAfter
 starts = record { lines = []; rest = []; so-far = refl; line-kept = refl; register-is = refl; text-is = refl }
 
 module _ {input : List ℕ} {s : State} {text : List ℕ} (so : Follows input s text) where
-  follows-kept : (b : ℕ) → eqb b 10 ≡ false → Follows (input ++ (b ∷ [])) (kept s b) (text ++ [])
+  follows-kept : (b : ℕ) → eqb b 10 ≡ false → Follows (input ++ (b ∷ [])) (longer s b) (text ++ [])
   follows-kept b other = record {
     lines = so .lines;
     rest = so .rest ++ (b ∷ []);
@@ -108,7 +108,7 @@ module _ {input : List ℕ} {s : State} {text : List ℕ} (so : Follows input s 
     unfolding ended-line
     asked = ap (λ said. askedBy said f) (ap saidBy (so .line-kept) ∙ kept-says keptBytes (so .rest) (omega arith))
 
-    follows-ended : Follows (input ++ (b ∷ [])) (ended s f) (text ++ replyBy (s .register) (askedBy (saidBy (s .line)) f))
+    follows-ended : Follows (input ++ (b ∷ [])) (lineEnded s f) (text ++ replyBy (s .register) (askedBy (saidBy (s .line)) f))
     unfolding ended-line history
     follows-ended =
         let cs = callsAfter [] (so .lines) in
@@ -124,58 +124,58 @@ module _ {input : List ℕ} {s : State} {text : List ℕ} (so : Follows input s 
               ∙ sym (printed-more [] (so .lines) ended-line));
         }
 
-  follows-step : (x : Byte) → Follows (input ++ (x .byte ∷ [])) (step s x) (text ++ printedBy s x)
-  unfolding step printedBy
+  follows-step : (x : Byte) → Follows (input ++ (x .byte ∷ [])) (byteTaken s x) (text ++ printedBy s x)
+  unfolding byteTaken printedBy
   follows-step x = go (eqb (x .byte) 10) refl
     where
       go : (t : Bool) → eqb (x .byte) 10 ≡ t
-          → Follows (input ++ (x .byte ∷ [])) (cond t (ended s (x .file)) (kept s (x .byte)))
+          → Follows (input ++ (x .byte ∷ [])) (cond t (lineEnded s (x .file)) (longer s (x .byte)))
           (text ++ cond t (replyBy (s .register) (askedBy (saidBy (s .line)) (x .file))) [])
       go true is = follows-ended (x .byte) (x .file) is
       go false other = follows-kept (x .byte) other
 
 follows-after : {input : List ℕ} {s : State} {text : List ℕ} (xs : List Byte) → Follows input s text
-    → Follows (input ++ map (λ x. x .byte) xs) (after s xs) (text ++ printedFor s xs)
-unfolding after printedFor
+    → Follows (input ++ map (λ x. x .byte) xs) (afterBytes s xs) (text ++ printedFor s xs)
+unfolding afterBytes printedFor
 follows-after {input} {text = text} [] so = rw (append-nil input, append-nil text) so
 follows-after {input} {s} {text} (x ∷ xs) so =
-    rw (append-assoc input (x .byte ∷ []) (map (λ x. x .byte) xs), append-assoc text (printedBy s x) (printedFor (step s x) xs)) at
+    rw (append-assoc input (x .byte ∷ []) (map (λ x. x .byte) xs), append-assoc text (printedBy s x) (printedFor (byteTaken s x) xs)) at
     (follows-after xs (follows-step so x))
 
 -- ---- the theorems
 
 -- Bytes that a desk takes one after the other.
-after-append : (s : State) (xs ys : List Byte) → after s (xs ++ ys) ≡ after (after s xs) ys
-unfolding after
+after-append : (s : State) (xs ys : List Byte) → afterBytes s (xs ++ ys) ≡ afterBytes (afterBytes s xs) ys
+unfolding afterBytes
 after-append s [] ys = refl
-after-append s (x ∷ xs) ys = after-append (step s x) xs ys
+after-append s (x ∷ xs) ys = after-append (byteTaken s x) xs ys
 
-printed-append : (s : State) (xs ys : List Byte) → printedFor s (xs ++ ys) ≡ printedFor s xs ++ printedFor (after s xs) ys
-unfolding after printedFor
+printed-append : (s : State) (xs ys : List Byte) → printedFor s (xs ++ ys) ≡ printedFor s xs ++ printedFor (afterBytes s xs) ys
+unfolding afterBytes printedFor
 printed-append s [] ys = refl
 printed-append s (x ∷ xs) ys =
-    ap (λ t. printedBy s x ++ t) (printed-append (step s x) xs ys)
-    ∙ sym (append-assoc (printedBy s x) (printedFor (step s x) xs) (printedFor (after (step s x) xs) ys))
+    ap (λ t. printedBy s x ++ t) (printed-append (byteTaken s x) xs ys)
+    ∙ sym (append-assoc (printedBy s x) (printedFor (byteTaken s x) xs) (printedFor (afterBytes (byteTaken s x) xs) ys))
 
 bytes-append : (xs ys : List Byte) → map (λ x. x .byte) (xs ++ ys) ≡ map (λ x. x .byte) xs ++ map (λ x. x .byte) ys
 bytes-append [] ys = refl
 bytes-append (x ∷ xs) ys = ap (λ l. x .byte ∷ l) (bytes-append xs ys)
 
 pub serves-none : (s : State) → Serves s [] s []
-unfolding after printedFor
+unfolding afterBytes printedFor
 serves-none s = record { taken = []; as-bytes = refl; leads = refl; prints = refl }
 
 pub serves-then : {s t u : State} {bs cs o p : List ℕ} → Serves s bs t o → Serves t cs u p → Serves s (bs ++ cs) u (o ++ p)
 serves-then {s} one two = record {
   taken = one .taken ++ two .taken;
   as-bytes = bytes-append (one .taken) (two .taken) ∙ ap₂ _++_ (one .as-bytes) (two .as-bytes);
-  leads = after-append s (one .taken) (two .taken) ∙ ap (λ t. after t (two .taken)) (one .leads) ∙ two .leads;
+  leads = after-append s (one .taken) (two .taken) ∙ ap (λ t. afterBytes t (two .taken)) (one .leads) ∙ two .leads;
   prints = printed-append s (one .taken) (two .taken)
       ∙ ap₂ _++_ (one .prints) (ap (λ t. printedFor t (two .taken)) (one .leads) ∙ two .prints);
 }
 
-pub serves-byte : (t : State) (x : Byte) → Serves t (x .byte ∷ []) (step t x) (printedBy t x)
-unfolding after printedFor
+pub serves-byte : (t : State) (x : Byte) → Serves t (x .byte ∷ []) (byteTaken t x) (printedBy t x)
+unfolding afterBytes printedFor
 serves-byte t x = record { taken = x ∷ []; as-bytes = refl; leads = refl; prints = append-nil (printedBy t x) }
 
 -- In whatever pieces the bytes come, they are served as one.
@@ -185,7 +185,7 @@ pieces-as-one {s} no-piece = serves-none s
 pieces-as-one (one-piece first others) = serves-then first (pieces-as-one others)
 
 -- What a desk prints of an input and a line end after it is what the script prints of the input.
-pub desk-prints : (input : List ℕ) {t : State} {text : List ℕ} → Serves start (input ++ (10 ∷ [])) t text → Prints input text
+pub desk-prints : (input : List ℕ) {t : State} {text : List ℕ} → Serves atStart (input ++ (10 ∷ [])) t text → Prints input text
 desk-prints input served =
     let so = follows-after (served .taken) starts in
     record {
@@ -193,6 +193,15 @@ desk-prints input served =
       of-input = last-off (map (λ l. l .bytes) (so .lines)) (pieces 10 input) (so .rest) [] (sym (so .so-far) ∙ ap (pieces 10) (served .as-bytes) ∙ pieces-closed 10 input refl);
       printed = sym (served .prints) ∙ so .text-is;
     }
+
+-- The same in whatever pieces the input came.
+flatten-last : (ps : List (List ℕ)) (q : List ℕ) → flatten (ps ++ (q ∷ [])) ≡ flatten ps ++ q
+unfolding flatten
+flatten-last [] q = append-nil q
+flatten-last (p ∷ ps) q = ap (λ l. p ++ l) (flatten-last ps q) ∙ sym (append-assoc p (flatten ps) q)
+
+pub pieces-printed : (ps : List (List ℕ)) {t : State} {text : List ℕ} → ServesPieces atStart (ps ++ ((10 ∷ []) ∷ [])) t text → Prints (flatten ps) text
+pieces-printed ps {t} {text} served = desk-prints (flatten ps) (subst (λ l. Serves atStart l t text) (flatten-last ps (10 ∷ [])) (pieces-as-one served))
 
 -- The reply to a line that says a call is that of a register after the calls that the lines before it say; of these the mission holds.
 printed-lines : (es : List Event) (ls ms : List Line) → printedAfter es (ls ++ ms) ≡ printedAfter es ls ++ printedAfter (eventsAfter es ls) ms

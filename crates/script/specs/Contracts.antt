@@ -3,7 +3,7 @@ use Prim.Native.Nat.{ℕ}
 use mathlib.Core.Bool.{Bool, true, false}
 use mathlib.Core.List.{List}
 use Rattle.questions.specs.declared.Shown.{Shown}
-use Rattle.questions.specs.Questions.{upperOf, lowerOf, meanOf, marginOf, liveOf}
+use Rattle.questions.specs.Questions.{upperAnswer, lowerAnswer, meanAnswer, marginAnswer, liveAnswer}
 use Rattle.register.specs.declared.Register.{Register}
 use Rattle.register.specs.Filing as Filing
 use Rattle.said.specs.declared.Said.{Said}
@@ -32,11 +32,11 @@ answeredFrom h a u l m Says.Unclear = Unclear
 answeredFrom h a u l m Says.Clear = Silence
 answeredFrom h a u l m Says.Model = Silence
 answeredFrom h a u l m Says.Delivery = Silence
-answeredFrom h a u l m (Says.Upper p z q) = Answered (upperOf h u p z q)
-answeredFrom h a u l m (Says.Lower p z q) = Answered (lowerOf h l p z q)
-answeredFrom h a u l m (Says.Steps p z) = Answered (meanOf h m p z)
-answeredFrom h a u l m Says.Margin = Answered (marginOf h)
-answeredFrom h a u l m (Says.Live p z q) = Answered (liveOf h a p z q)
+answeredFrom h a u l m (Says.Upper p z q) = Answered (upperAnswer h u p z q)
+answeredFrom h a u l m (Says.Lower p z q) = Answered (lowerAnswer h l p z q)
+answeredFrom h a u l m (Says.Steps p z) = Answered (meanAnswer h m p z)
+answeredFrom h a u l m Says.Margin = Answered (marginAnswer h)
+answeredFrom h a u l m (Says.Live p z q) = Answered (liveAnswer h a p z q)
 
 abbrev pub responded : Register → Response → Responded
 responded r x = record { register = r; response = x }

@@ -22,8 +22,8 @@ pub record State : Type 0 where
   pub line : List ℕ
 
 -- A desk that has just been opened.
-abbrev pub start : State
-start = record { register = cleared; line = [] }
+abbrev pub atStart : State
+atStart = record { register = cleared; line = [] }
 
 -- A byte of the input, and the bytes of the file that the line which it ends names: any, where it ends none or none is read.
 pub record Byte : Type 0 where
@@ -42,33 +42,33 @@ replyBy r unclear = unclearLine
 replyBy r (call c) = replyLine (replyOf r c)
 
 -- The state after a byte: one byte more of the line, of which the first bytes are kept, or its end.
-abbrev pub kept : State → ℕ → State
-kept s b = record { register = s .register; line = take keptBytes (s .line ++ (b ∷ [])) }
+abbrev pub longer : State → ℕ → State
+longer s b = record { register = s .register; line = take keptBytes (s .line ++ (b ∷ [])) }
 
-abbrev pub ended : State → List ℕ → State
-ended s f = record { register = registerBy (s .register) (askedBy (saidBy (s .line)) f); line = [] }
+abbrev pub lineEnded : State → List ℕ → State
+lineEnded s f = record { register = registerBy (s .register) (askedBy (saidBy (s .line)) f); line = [] }
 
-unfoldable pub step : State → Byte → State
-step s x = cond (eqb (x .byte) 10) (ended s (x .file)) (kept s (x .byte))
+unfoldable pub byteTaken : State → Byte → State
+byteTaken s x = cond (eqb (x .byte) 10) (lineEnded s (x .file)) (longer s (x .byte))
 
 -- What is printed for a byte: the reply to the line that it ends.
 unfoldable pub printedBy : State → Byte → List ℕ
 printedBy s x = cond (eqb (x .byte) 10) (replyBy (s .register) (askedBy (saidBy (s .line)) (x .file))) []
 
 -- The same of bytes one after the other.
-unfoldable pub after : State → List Byte → State
-after s [] = s
-after s (x ∷ xs) = after (step s x) xs
+unfoldable pub afterBytes : State → List Byte → State
+afterBytes s [] = s
+afterBytes s (x ∷ xs) = afterBytes (byteTaken s x) xs
 
 unfoldable pub printedFor : State → List Byte → List ℕ
 printedFor s [] = []
-printedFor s (x ∷ xs) = printedBy s x ++ printedFor (step s x) xs
+printedFor s (x ∷ xs) = printedBy s x ++ printedFor (byteTaken s x) xs
 
 -- Bytes that take a desk from one state to another and have it print a text, with some bytes for each file that is read.
 pub record Serves (s : State) (bytes : List ℕ) (t : State) (text : List ℕ) : Type 0 where
   pub taken : List Byte
   pub as-bytes : map (λ x. x .byte) taken ≡ bytes
-  pub leads : after s taken ≡ t
+  pub leads : afterBytes s taken ≡ t
   pub prints : printedFor s taken ≡ text
 
 -- The same of pieces one after the other: what is printed for each, and for all.

@@ -21,7 +21,7 @@ use Rattle.script.specs.declared.Responded.{Responded}
 use Rattle.script.specs.Contracts.{mayChange, answeredFrom}
 use Rattle.script.proofs.Responses.{changed-register, changed-text, kept-register, kept-text}
 use Rattle.script.specs.Script.{askedBy}
-use Rattle.script.specs.Serving.{keptBytes, State, Byte, registerBy, replyBy, kept, ended, step, printedBy, Serves}
+use Rattle.script.specs.Serving.{keptBytes, State, Byte, registerBy, replyBy, longer, lineEnded, byteTaken, printedBy, Serves}
 use Rattle.service.specs.Contracts.{keptCount, keptLine, Performed}
 use Rattle.script.proofs.Printing.{serves-none, serves-then, serves-byte}
 
@@ -44,7 +44,7 @@ pub record Serving (s : State) (piece : List ℕ) (n room : ℕ) (out : List ℕ
 module _ {s : State} {piece : List ℕ} {n room : ℕ} {out : List ℕ} {r : Register} {v : View} {line : List ℕ} {k at i : ℕ}
     (now : Serving s piece n room out r v line k at i) (turn : i < n) where
   -- One byte more.
-  one-more : (x : Byte) (t : State) (o : List ℕ) → x .byte ≡ getD piece i 0 → step (stateBy r line k) x ≡ t → take at out ++ printedBy (stateBy r line k) x ≡ o
+  one-more : (x : Byte) (t : State) (o : List ℕ) → x .byte ≡ getD piece i 0 → byteTaken (stateBy r line k) x ≡ t → take at out ++ printedBy (stateBy r line k) x ≡ o
       → Serves s (take (i + 1) piece) t o
   one-more x t o is leads prints =
       let inside : i < length piece = omega (arith, now .few) in
@@ -59,7 +59,7 @@ module _ {s : State} {piece : List ℕ} {n room : ℕ} {out : List ℕ} {r : Reg
   pub serving-ended : {b at′ : ℕ} {out′ t : List ℕ} {said : Said} (f : List ℕ) {r′ : Register} {v′ : View} → b ≡ getD piece i 0 → eqb b 10 ≡ true
       → said ≡ saidBy (take k line) → r′ ≡ registerBy r (askedBy said f) → t ≡ replyBy r (askedBy said f)
       → Put out out′ at at′ t × (at′ ≤ at + replyRoom) → v′ ≡ viewOf r′ → Serving s piece n room out′ r′ v′ line 0 at′ (i + 1)
-  unfolding step printedBy
+  unfolding byteTaken printedBy
   serving-ended {b} {at′} {out′} {t} {said} f {r′} {v′} is end says after text (put, fits) seen =
       record {
         to = omega arith;
@@ -93,7 +93,7 @@ module _ {s : State} {piece : List ℕ} {n room : ℕ} {out : List ℕ} {r : Reg
   -- A byte of a line that is kept, and one that is not.
   pub serving-kept : {b : ℕ} {line′ : List ℕ} → b ≡ getD piece i 0 → eqb b 10 ≡ false → k < keptBytes → line′ ≡ set line k b
       → Serving s piece n room out r v line′ (k + 1) at (i + 1)
-  unfolding step printedBy
+  unfolding byteTaken printedBy
   serving-kept {b} {line′} is other less put =
       let size = now .line-size in
       let longer : take (k + 1) (set line k b) ≡ take k line ++ (b ∷ []) = rw add-one (take-suc-set line k b (omega arith)) in
@@ -112,7 +112,7 @@ module _ {s : State} {piece : List ℕ} {n room : ℕ} {out : List ℕ} {r : Reg
       }
 
   pub serving-full : {b : ℕ} → b ≡ getD piece i 0 → eqb b 10 ≡ false → keptBytes ≤ k → Serving s piece n room out r v line k at (i + 1)
-  unfolding step printedBy
+  unfolding byteTaken printedBy
   serving-full {b} is other full =
       let size = now .line-size in
       let whole : k ≡ keptBytes = omega (arith, now .line-most) in

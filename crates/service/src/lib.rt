@@ -14,7 +14,7 @@ use script::reads_file;
 ghost use mathlib.Core.Path.{_≡_};
 ghost use Prim.Native.Nat.{min};
 ghost use Rattle.io.specs.Counts.{Counts};
-ghost use Rattle.script.specs.Serving.{start};
+ghost use Rattle.script.specs.Serving.{atStart};
 ghost use Rattle.service.specs.Service.{stateOf, Took};
 ghost use Rattle.service.specs.Contracts.{nameFrom, Performed, keptCount, keptLine};
 
@@ -37,7 +37,7 @@ pub struct Served {
 
 // A desk whose register holds nothing, at the start of a line.
 pub fn opened() -> Desk
-    ensures { λ r. ⌜ stateOf r ≡ start ⌝ }
+    ensures { λ r. ⌜ stateOf r ≡ atStart ⌝ }
 {
     Desk {
         register: Register::empty(),

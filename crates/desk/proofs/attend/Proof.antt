@@ -3,7 +3,7 @@ use Prim.Native.Nat.{_≤_}
 use mathlib.Core.Path.{_≡_}
 use lib.ListN.{length}
 use borrow.Author.Needs.{needs}
-use Rattle.desk.specs.Desk.{roomBytes}
+use Rattle.desk.specs.Contracts.{roomBytes}
 use Rattle.desk.proofs.attend.Statement.{statement}
 use Rattle.desk.proofs.attend.Tie as tie
 

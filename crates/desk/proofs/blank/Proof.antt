@@ -1,7 +1,7 @@
 -- `blank`: a list of that many zeros is that long.
 use Prim.Native.Nat.{ℕ}
 use lib.ListN.{length-replicate}
-use Rattle.desk.specs.Desk.{roomBytes}
+use Rattle.desk.specs.Contracts.{roomBytes}
 use Rattle.desk.proofs.blank.Statement.{statement}
 use Rattle.desk.proofs.blank.Tie as tie
 

@@ -1,6 +1,6 @@
 -- `live`: the question on what the register shows, and its list of numbers.
 use mathlib.Core.Path.{ap, _∙_}
-use Rattle.questions.specs.Questions.{liveOf}
+use Rattle.questions.specs.Questions.{liveAnswer}
 use Rattle.register.specs.Questions.{liveIn}
 use borrow.Author.Needs.{needs}
 use Rattle.register.proofs.Register.live.Statement.{statement}
@@ -16,7 +16,7 @@ returns : tie.Need-returns
 unfolding liveIn
 returns c =
     let args = c .before .before .before .before .args in
-    c .live .ensures ∙ ap (λ h. liveOf h (args .self .model .live) (args .p) (args .z) (args .q)) (c .before .before .shown .ensures)
+    c .live .ensures ∙ ap (λ h. liveAnswer h (args .self .model .live) (args .p) (args .z) (args .q)) (c .before .before .shown .ensures)
 
 pub live-spec : {M : Type 1} → statement M
 live-spec = tie.close (tie.spec shown-requires live-requires returns)

@@ -1,6 +1,6 @@
 -- `margin`: the question on what the register shows.
 use mathlib.Core.Path.{ap, _∙_}
-use Rattle.questions.specs.Questions.{marginOf}
+use Rattle.questions.specs.Questions.{marginAnswer}
 use Rattle.register.specs.Questions.{marginIn}
 use borrow.Author.Needs.{needs}
 use Rattle.register.proofs.Register.margin.Statement.{statement}
@@ -14,7 +14,7 @@ margin-requires c κs = search needs
 
 returns : tie.Need-returns
 unfolding marginIn
-returns c = c .margin .ensures ∙ ap marginOf (c .before .shown .ensures)
+returns c = c .margin .ensures ∙ ap marginAnswer (c .before .shown .ensures)
 
 pub margin-spec : {M : Type 1} → statement M
 margin-spec = tie.close (tie.spec shown-requires margin-requires returns)

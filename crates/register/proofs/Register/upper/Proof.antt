@@ -1,6 +1,6 @@
 -- `upper`: the question on what the register shows, and its list of numbers.
 use mathlib.Core.Path.{ap, _∙_}
-use Rattle.questions.specs.Questions.{upperOf}
+use Rattle.questions.specs.Questions.{upperAnswer}
 use Rattle.register.specs.Questions.{upperIn}
 use borrow.Author.Needs.{needs}
 use Rattle.register.proofs.Register.upper.Statement.{statement}
@@ -16,7 +16,7 @@ returns : tie.Need-returns
 unfolding upperIn
 returns c =
     let args = c .before .before .before .before .args in
-    c .upper .ensures ∙ ap (λ h. upperOf h (args .self .numbers .uppers) (args .p) (args .z) (args .q)) (c .before .before .shown .ensures)
+    c .upper .ensures ∙ ap (λ h. upperAnswer h (args .self .numbers .uppers) (args .p) (args .z) (args .q)) (c .before .before .shown .ensures)
 
 pub upper-spec : {M : Type 1} → statement M
 upper-spec = tie.close (tie.spec shown-requires upper-requires returns)
