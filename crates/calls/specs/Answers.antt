@@ -10,7 +10,17 @@ use Rattle.calls.specs.declared.Mark.{Mark}
 use Rattle.calls.specs.declared.Mark.the-variants as Marks
 use Rattle.calls.specs.declared.Answer.{Answer}
 use Rattle.calls.specs.declared.Answer.the-variants.{Value, Refused}
-use Rattle.calls.specs.Calls.{Reply, accepted, known, new, value, refused}
+use Rattle.calls.specs.declared.Question.{Question}
+use Rattle.calls.specs.declared.Question.the-variants as Questions
+use Rattle.calls.specs.Calls.{Call, upper, lower, meanSteps, margin, live, Reply, accepted, known, new, value, refused}
+
+-- The call that a question of the code is.
+abbrev pub questionCall : Question → Call
+questionCall (Questions.Upper p z q) = upper p z q
+questionCall (Questions.Lower p z q) = lower p z q
+questionCall (Questions.MeanSteps p z) = meanSteps p z
+questionCall Questions.Margin = margin
+questionCall (Questions.Live p z q) = live p z q
 
 -- The first reason that applies, or the number: whether a model is held (40), a delivery (42), the states and symbols are the held model's
 -- (44), the block stands (43).

@@ -12,6 +12,15 @@ pub enum Mark {
     Absent,
 }
 
+// A question: on an entry, on a row, or on the whole.
+pub enum Question {
+    Upper { p: usize, z: usize, q: usize },
+    Lower { p: usize, z: usize, q: usize },
+    MeanSteps { p: usize, z: usize },
+    Margin,
+    Live { p: usize, z: usize, q: usize },
+}
+
 // The answer to a question: a number, or a refusal.
 pub enum Answer {
     Value(u64),

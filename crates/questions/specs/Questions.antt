@@ -2,6 +2,8 @@
 use Prim.Native.Nat.{ℕ}
 use mathlib.Core.Bool.{true}
 use mathlib.Core.List.{List}
+use Rattle.calls.specs.declared.Question.{Question}
+use Rattle.calls.specs.declared.Question.the-variants as Asks
 use Rattle.calls.specs.declared.Answer.{Answer}
 use Rattle.calls.specs.Answers.{answered}
 use Rattle.held.specs.Held.{holdsModel, isHeld, lowersStand, meansStand}
@@ -30,3 +32,11 @@ marginAnswer h = answered (holdsModel (h .length)) (isHeld (h .delivery)) true (
 abbrev pub liveAnswer : Shown → List ℕ → ℕ → ℕ → ℕ → Answer
 liveAnswer h l p z q =
     answered (holdsModel (h .length)) true (hasEntry (h .states) (h .symbols) p z q) true (entryValue (h .states) (h .symbols) l p z q)
+
+-- Any question, from the lists of live marks, uppers, lowers and mean steps.
+abbrev pub answerFrom : Shown → (marks uppers lowers means : List ℕ) → Question → Answer
+answerFrom h a u l m (Asks.Upper p z q) = upperAnswer h u p z q
+answerFrom h a u l m (Asks.Lower p z q) = lowerAnswer h l p z q
+answerFrom h a u l m (Asks.MeanSteps p z) = meanAnswer h m p z
+answerFrom h a u l m Asks.Margin = marginAnswer h
+answerFrom h a u l m (Asks.Live p z q) = liveAnswer h a p z q

@@ -1,6 +1,7 @@
 // The five questions, answered from what is held: a few small values, and the one list of numbers that is asked. Nothing is copied.
 
 use calls::Answer;
+use calls::Question;
 use calls::answered;
 use held::HeldDelivery;
 use held::holds_model;
@@ -14,7 +15,7 @@ use held::places::row_value;
 use held::places::sizes_held;
 use model::format::MOST_ENTRIES;
 ghost use mathlib.Core.Path.{_≡_};
-ghost use Rattle.questions.specs.Questions.{upperAnswer, lowerAnswer, meanAnswer, marginAnswer, liveAnswer};
+ghost use Rattle.questions.specs.Questions.{upperAnswer, lowerAnswer, meanAnswer, marginAnswer, liveAnswer, answerFrom};
 
 // What is held, but for the lists of numbers: the length of the model's file, 0 where none is held, its sizes, the delivery's shape and its margin.
 pub struct Shown {
@@ -115,4 +116,24 @@ pub fn live(held: Shown, marks: &[u32; MOST_ENTRIES], p: usize, z: usize, q: usi
         true,
         value,
     )
+}
+
+// Any question, from what is held and its lists of numbers.
+pub fn answer<'a>(
+    held: Shown,
+    marks: &'a [u32; MOST_ENTRIES],
+    uppers: &'a [u32; MOST_ENTRIES],
+    lowers: &'a [u32; MOST_ENTRIES],
+    means: &'a [u32; MOST_ENTRIES],
+    question: Question,
+) -> Answer
+    ensures { λ r. ⌜ r ≡ answerFrom held (now (marks .entry)) (now (uppers .entry)) (now (lowers .entry)) (now (means .entry)) question ⌝ }
+{
+    match question {
+        Question::Upper { p, z, q } => upper(held, uppers, p, z, q),
+        Question::Lower { p, z, q } => lower(held, lowers, p, z, q),
+        Question::MeanSteps { p, z } => mean_steps(held, means, p, z),
+        Question::Margin => margin(held),
+        Question::Live { p, z, q } => live(held, marks, p, z, q),
+    }
 }

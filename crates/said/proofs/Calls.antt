@@ -8,7 +8,10 @@ use lib.ListN.{length, take, drop}
 use borrow.Author.Tests.{eqb-true}
 use native.Mathlib.Omega.{arith}
 use Rattle.said.specs.declared.Said.{Said}
-use Rattle.said.specs.declared.Said.the-variants.{Nothing, Unclear, Clear, Model, Delivery, Upper, Lower, Steps, Margin, Live}
+use Rattle.calls.specs.declared.Question.the-variants.{Upper, Lower, MeanSteps, Margin, Live}
+use Rattle.said.specs.declared.Change.the-variants.{Clear, Model, Delivery}
+use Rattle.said.specs.declared.Said.the-variants as Says
+use Rattle.said.specs.declared.Said.the-variants.{Nothing, Unclear}
 use Rattle.said.specs.Said.{same, isPlain, isSilent, alone, onFile, onRow, onEntry, byWord, saidBy}
 use Rattle.said.specs.Said.{clearWord, modelWord, deliveryWord, upperWord, lowerWord, stepsWord, marginWord, liveWord}
 use Rattle.said.specs.Contracts.{wordEnd, argumentsIn}
@@ -26,15 +29,15 @@ same-is (x ∷ xs) (y ∷ ys) e =
 
 -- Each call by its word.
 module _ (w : List ℕ) (ws : List (List ℕ)) where
-  pub says-clear : same w clearWord ≡ true → byWord w ws ≡ alone Clear ws
+  pub says-clear : same w clearWord ≡ true → byWord w ws ≡ alone (Says.Change Clear) ws
   unfolding byWord same
   says-clear e = rw (same-is w clearWord e)
 
-  pub says-model : same w modelWord ≡ true → byWord w ws ≡ onFile Model ws
+  pub says-model : same w modelWord ≡ true → byWord w ws ≡ onFile (Says.Change Model) ws
   unfolding byWord same
   says-model e = rw (same-is w modelWord e)
 
-  pub says-delivery : same w deliveryWord ≡ true → byWord w ws ≡ onFile Delivery ws
+  pub says-delivery : same w deliveryWord ≡ true → byWord w ws ≡ onFile (Says.Change Delivery) ws
   unfolding byWord same
   says-delivery e = rw (same-is w deliveryWord e)
 
@@ -46,11 +49,11 @@ module _ (w : List ℕ) (ws : List (List ℕ)) where
   unfolding byWord same
   says-lower e = rw (same-is w lowerWord e)
 
-  pub says-steps : same w stepsWord ≡ true → byWord w ws ≡ onRow Steps ws
+  pub says-steps : same w stepsWord ≡ true → byWord w ws ≡ onRow MeanSteps ws
   unfolding byWord same
   says-steps e = rw (same-is w stepsWord e)
 
-  pub says-margin : same w marginWord ≡ true → byWord w ws ≡ alone Margin ws
+  pub says-margin : same w marginWord ≡ true → byWord w ws ≡ alone (Says.Question Margin) ws
   unfolding byWord same
   says-margin e = rw (same-is w marginWord e)
 

@@ -11,7 +11,11 @@ use lib.Seq.{take-all, length-take-le, drop-drop}
 use borrow.Author.Tests.{eqb-true, leb-true, leb-false, lt-leb}
 use Rattle.text.specs.Reading.{numberIn}
 use Rattle.said.specs.declared.Said.{Said}
-use Rattle.said.specs.declared.Said.the-variants.{Nothing, Unclear, Clear, Model, Delivery, Upper, Lower, Steps, Margin, Live}
+use Rattle.calls.specs.declared.Question.{Question}
+use Rattle.calls.specs.declared.Question.the-variants.{Upper, Lower, MeanSteps, Margin, Live}
+use Rattle.said.specs.declared.Change.the-variants.{Clear, Model, Delivery}
+use Rattle.said.specs.declared.Said.the-variants as Says
+use Rattle.said.specs.declared.Said.the-variants.{Nothing, Unclear}
 use Rattle.said.specs.Said.{same, every, isPrintable, isPlain, isSilent, isNumber, isName, alone, isFile, onFile, onRow, onEntry, byWord, saidBy}
 use Rattle.said.specs.Said.{clearWord, modelWord, deliveryWord, upperWord, lowerWord, stepsWord, marginWord, liveWord}
 use Rattle.said.specs.Contracts.{wordEnd, argumentsIn, FileLine}
@@ -80,71 +84,56 @@ module _ (f : Said → Bool) (unclear : f Unclear ≡ false) where
   file-down : (call : Said) (ws : List (List ℕ)) → f call ≡ false → f (onFile call ws) ≡ false
   file-down call ws e = either (isFile ws) call Unclear (λ t. e) unclear
 
-  row-down : (call : ℕ → ℕ → Said) (ws : List (List ℕ)) → ((p z : ℕ) → f (call p z) ≡ false) → f (onRow call ws) ≡ false
+  row-down : (call : ℕ → ℕ → Question) (ws : List (List ℕ)) → ((a : Question) → f (Says.Question a) ≡ false) → f (onRow call ws) ≡ false
   row-down call [] e = unclear
   row-down call (p ∷ []) e = unclear
-  row-down call (p ∷ z ∷ []) e = either (isNumber p && isNumber z) (call (numberIn p) (numberIn z)) Unclear (λ t. e (numberIn p) (numberIn z)) unclear
+  row-down call (p ∷ z ∷ []) e = either (isNumber p && isNumber z) (Says.Question (call (numberIn p) (numberIn z))) Unclear (λ t. e (call (numberIn p) (numberIn z))) unclear
   row-down call (p ∷ z ∷ w ∷ ws) e = unclear
 
-  entry-down : (call : ℕ → ℕ → ℕ → Said) (ws : List (List ℕ)) → ((p z q : ℕ) → f (call p z q) ≡ false) → f (onEntry call ws) ≡ false
+  entry-down : (call : ℕ → ℕ → ℕ → Question) (ws : List (List ℕ)) → ((a : Question) → f (Says.Question a) ≡ false) → f (onEntry call ws) ≡ false
   entry-down call [] e = unclear
   entry-down call (p ∷ []) e = unclear
   entry-down call (p ∷ z ∷ []) e = unclear
   entry-down call (p ∷ z ∷ q ∷ []) e =
-      either (isNumber p && (isNumber z && isNumber q)) (call (numberIn p) (numberIn z) (numberIn q)) Unclear
-      (λ t. e (numberIn p) (numberIn z) (numberIn q)) unclear
+      either (isNumber p && (isNumber z && isNumber q)) (Says.Question (call (numberIn p) (numberIn z) (numberIn q))) Unclear
+      (λ t. e (call (numberIn p) (numberIn z) (numberIn q))) unclear
   entry-down call (p ∷ z ∷ q ∷ w ∷ ws) e = unclear
 
-  word-down : (w : List ℕ) (ws : List (List ℕ)) → f Clear ≡ false → (same w modelWord ≡ true → f Model ≡ false)
-      → (same w deliveryWord ≡ true → f Delivery ≡ false) → ((p z q : ℕ) → f (Upper p z q) ≡ false) → ((p z q : ℕ) → f (Lower p z q) ≡ false)
-      → ((p z : ℕ) → f (Steps p z) ≡ false) → f Margin ≡ false → ((p z q : ℕ) → f (Live p z q) ≡ false) → f (byWord w ws) ≡ false
+  word-down : (w : List ℕ) (ws : List (List ℕ)) → f (Says.Change Clear) ≡ false → (same w modelWord ≡ true → f (Says.Change Model) ≡ false)
+      → (same w deliveryWord ≡ true → f (Says.Change Delivery) ≡ false) → ((a : Question) → f (Says.Question a) ≡ false) → f (byWord w ws) ≡ false
   unfolding byWord
-  word-down w ws clear model delivery upper lower steps margin live =
-      either (same w clearWord) _ _ (λ t. alone-down Clear ws clear)
-      (either (same w modelWord) _ _ (λ t. file-down Model ws (model t))
-      (either (same w deliveryWord) _ _ (λ t. file-down Delivery ws (delivery t))
-      (either (same w upperWord) _ _ (λ t. entry-down Upper ws upper)
-      (either (same w lowerWord) _ _ (λ t. entry-down Lower ws lower)
-      (either (same w stepsWord) _ _ (λ t. row-down Steps ws steps)
-      (either (same w marginWord) _ _ (λ t. alone-down Margin ws margin)
-      (either (same w liveWord) _ _ (λ t. entry-down Live ws live) unclear)))))))
+  word-down w ws clear model delivery question =
+      either (same w clearWord) _ _ (λ t. alone-down (Says.Change Clear) ws clear)
+      (either (same w modelWord) _ _ (λ t. file-down (Says.Change Model) ws (model t))
+      (either (same w deliveryWord) _ _ (λ t. file-down (Says.Change Delivery) ws (delivery t))
+      (either (same w upperWord) _ _ (λ t. entry-down Upper ws question)
+      (either (same w lowerWord) _ _ (λ t. entry-down Lower ws question)
+      (either (same w stepsWord) _ _ (λ t. row-down MeanSteps ws question)
+      (either (same w marginWord) _ _ (λ t. alone-down (Says.Question Margin) ws (question Margin))
+      (either (same w liveWord) _ _ (λ t. entry-down Live ws question) unclear)))))))
 
 -- The flags of a reply that is none, and of the filings.
 abbrev isNothing : Said → Bool
 isNothing Nothing = true
 isNothing Unclear = false
-isNothing Clear = false
-isNothing Model = false
-isNothing Delivery = false
-isNothing (Upper p z q) = false
-isNothing (Lower p z q) = false
-isNothing (Steps p z) = false
-isNothing Margin = false
-isNothing (Live p z q) = false
+isNothing (Says.Change c) = false
+isNothing (Says.Question a) = false
 
 abbrev isModel : Said → Bool
 isModel Nothing = false
 isModel Unclear = false
-isModel Clear = false
-isModel Model = true
-isModel Delivery = false
-isModel (Upper p z q) = false
-isModel (Lower p z q) = false
-isModel (Steps p z) = false
-isModel Margin = false
-isModel (Live p z q) = false
+isModel (Says.Change Clear) = false
+isModel (Says.Change Model) = true
+isModel (Says.Change Delivery) = false
+isModel (Says.Question a) = false
 
 abbrev isDelivery : Said → Bool
 isDelivery Nothing = false
 isDelivery Unclear = false
-isDelivery Clear = false
-isDelivery Model = false
-isDelivery Delivery = true
-isDelivery (Upper p z q) = false
-isDelivery (Lower p z q) = false
-isDelivery (Steps p z) = false
-isDelivery Margin = false
-isDelivery (Live p z q) = false
+isDelivery (Says.Change Clear) = false
+isDelivery (Says.Change Model) = false
+isDelivery (Says.Change Delivery) = true
+isDelivery (Says.Question a) = false
 
 -- What a line says that says anything but `Nothing` and `Unclear`, it says by its words.
 record Spoken (line : List ℕ) : Type 0 where
@@ -161,7 +150,7 @@ nothing-is-silent line e = go (isSilent line) refl (isPlain line) refl
     go false loud true plain =
         absurd
         (false≢true
-        (sym (word-down isNothing refl _ _ refl (λ t. refl) (λ t. refl) (λ p z q. refl) (λ p z q. refl) (λ p z. refl) refl (λ p z q. refl))
+        (sym (word-down isNothing refl _ _ refl (λ t. refl) (λ t. refl) (λ a. refl))
         ∙ ap isNothing (sym (line-says line loud plain) ∙ e)))
 
 spoken : (line : List ℕ) (f : Said → Bool) → f Nothing ≡ false → f Unclear ≡ false → f (saidBy line) ≡ true → Spoken line
@@ -231,14 +220,14 @@ filing-names f word line call up nothing unclear other by e = go (same first wor
     go true is true file = file-line word line (said .plain) (same-is first word is) file
 
 -- The name in a line that files a model is its bytes from number 6 on, and in one that files a delivery those from number 9 on.
-pub model-names : (line : List ℕ) → saidBy line ≡ Model → FileLine modelWord line
+pub model-names : (line : List ℕ) → saidBy line ≡ Says.Change Model → FileLine modelWord line
 model-names line e =
-    filing-names isModel modelWord line Model refl refl refl
-    (λ w ws is. word-down isModel refl w ws refl (λ t. absurd (false≢true (sym is ∙ t))) (λ t. refl) (λ p z q. refl) (λ p z q. refl) (λ p z. refl) refl (λ p z q. refl))
+    filing-names isModel modelWord line (Says.Change Model) refl refl refl
+    (λ w ws is. word-down isModel refl w ws refl (λ t. absurd (false≢true (sym is ∙ t))) (λ t. refl) (λ a. refl))
     says-model e
 
-pub delivery-names : (line : List ℕ) → saidBy line ≡ Delivery → FileLine deliveryWord line
+pub delivery-names : (line : List ℕ) → saidBy line ≡ Says.Change Delivery → FileLine deliveryWord line
 delivery-names line e =
-    filing-names isDelivery deliveryWord line Delivery refl refl refl
-    (λ w ws is. word-down isDelivery refl w ws refl (λ t. refl) (λ t. absurd (false≢true (sym is ∙ t))) (λ p z q. refl) (λ p z q. refl) (λ p z. refl) refl (λ p z q. refl))
+    filing-names isDelivery deliveryWord line (Says.Change Delivery) refl refl refl
+    (λ w ws is. word-down isDelivery refl w ws refl (λ t. refl) (λ t. absurd (false≢true (sym is ∙ t))) (λ a. refl))
     says-delivery e

@@ -10,6 +10,8 @@ use lib.Seq.{take-all, take-length}
 use borrow.Author.Tests.{eqb-true, eqb-false, le-leb, lt-leb}
 use Rattle.text.specs.Reading.{pieces, numberIn}
 use Rattle.said.specs.declared.Said.{Said}
+use Rattle.calls.specs.declared.Question.{Question}
+use Rattle.said.specs.declared.Said.the-variants as Says
 use Rattle.said.specs.declared.Said.the-variants.{Unclear}
 use Rattle.said.specs.declared.arguments.Numbers.{Numbers}
 use Rattle.said.specs.declared.arguments.Numbers.the-variants.{Two, Three, Other}
@@ -149,41 +151,41 @@ module _ (rest text : List ℕ) (e : ℕ) (part : text ≡ drop 1 rest) (some : 
 -- ---- calls with numbers
 
 -- A call of three numbers, and of two.
-abbrev pub entrySaid : (ℕ → ℕ → ℕ → Said) → Numbers → Said
-entrySaid call (Three a b c) = call a b c
+abbrev pub entrySaid : (ℕ → ℕ → ℕ → Question) → Numbers → Said
+entrySaid call (Three a b c) = Says.Question (call a b c)
 entrySaid call (Two a b) = Unclear
 entrySaid call Other = Unclear
 
-abbrev pub rowSaid : (ℕ → ℕ → Said) → Numbers → Said
-rowSaid call (Two a b) = call a b
+abbrev pub rowSaid : (ℕ → ℕ → Question) → Numbers → Said
+rowSaid call (Two a b) = Says.Question (call a b)
 rowSaid call (Three a b c) = Unclear
 rowSaid call Other = Unclear
 
-three-flags : (call : ℕ → ℕ → ℕ → Said) (s t u : Bool) (a b c : ℕ)
-    → cond (s && (t && u)) (call a b c) Unclear ≡ entrySaid call (threeOf (cond s (Is a) Not) (cond t (Is b) Not) (cond u (Is c) Not))
+three-flags : (call : ℕ → ℕ → ℕ → Question) (s t u : Bool) (a b c : ℕ)
+    → cond (s && (t && u)) (Says.Question (call a b c)) Unclear ≡ entrySaid call (threeOf (cond s (Is a) Not) (cond t (Is b) Not) (cond u (Is c) Not))
 three-flags call true true true a b c = refl
 three-flags call true true false a b c = refl
 three-flags call true false u a b c = refl
 three-flags call false t u a b c = refl
 
-two-flags : (call : ℕ → ℕ → Said) (s t : Bool) (a b : ℕ)
-    → cond (s && t) (call a b) Unclear ≡ rowSaid call (twoOf (cond s (Is a) Not) (cond t (Is b) Not))
+two-flags : (call : ℕ → ℕ → Question) (s t : Bool) (a b : ℕ)
+    → cond (s && t) (Says.Question (call a b)) Unclear ≡ rowSaid call (twoOf (cond s (Is a) Not) (cond t (Is b) Not))
 two-flags call true true a b = refl
 two-flags call true false a b = refl
 two-flags call false t a b = refl
 
-two-no-entry : (call : ℕ → ℕ → ℕ → Said) (x y : Number) → Unclear ≡ entrySaid call (twoOf x y)
+two-no-entry : (call : ℕ → ℕ → ℕ → Question) (x y : Number) → Unclear ≡ entrySaid call (twoOf x y)
 two-no-entry call (Is a) (Is b) = refl
 two-no-entry call (Is a) Not = refl
 two-no-entry call Not y = refl
 
-three-no-row : (call : ℕ → ℕ → Said) (x y z : Number) → Unclear ≡ rowSaid call (threeOf x y z)
+three-no-row : (call : ℕ → ℕ → Question) (x y z : Number) → Unclear ≡ rowSaid call (threeOf x y z)
 three-no-row call (Is a) (Is b) (Is c) = refl
 three-no-row call (Is a) (Is b) Not = refl
 three-no-row call (Is a) Not z = refl
 three-no-row call Not y z = refl
 
-pub entry-said : (call : ℕ → ℕ → ℕ → Said) (ws : List (List ℕ)) → onEntry call ws ≡ entrySaid call (numbersOf ws)
+pub entry-said : (call : ℕ → ℕ → ℕ → Question) (ws : List (List ℕ)) → onEntry call ws ≡ entrySaid call (numbersOf ws)
 unfolding numbersOf afterFirst numberAs
 entry-said call [] = refl
 entry-said call (p ∷ []) = refl
@@ -191,7 +193,7 @@ entry-said call (p ∷ z ∷ []) = two-no-entry call (numberAs p) (numberAs z)
 entry-said call (p ∷ z ∷ q ∷ []) = three-flags call (isNumber p) (isNumber z) (isNumber q) (numberIn p) (numberIn z) (numberIn q)
 entry-said call (p ∷ z ∷ q ∷ w ∷ ws) = refl
 
-pub row-said : (call : ℕ → ℕ → Said) (ws : List (List ℕ)) → onRow call ws ≡ rowSaid call (numbersOf ws)
+pub row-said : (call : ℕ → ℕ → Question) (ws : List (List ℕ)) → onRow call ws ≡ rowSaid call (numbersOf ws)
 unfolding numbersOf afterFirst numberAs
 row-said call [] = refl
 row-said call (p ∷ []) = refl
@@ -200,10 +202,10 @@ row-said call (p ∷ z ∷ q ∷ []) = three-no-row call (numberAs p) (numberAs 
 row-said call (p ∷ z ∷ q ∷ w ∷ ws) = refl
 
 -- What is said by numbers that the code has found.
-pub entry-found : (call : ℕ → ℕ → ℕ → Said) (ws : List (List ℕ)) (n : Numbers) {found : Numbers} → n ≡ numbersOf ws → n ≡ found
+pub entry-found : (call : ℕ → ℕ → ℕ → Question) (ws : List (List ℕ)) (n : Numbers) {found : Numbers} → n ≡ numbersOf ws → n ≡ found
     → entrySaid call found ≡ onEntry call ws
 entry-found call ws n e q = ap (entrySaid call) (sym q ∙ e) ∙ sym (entry-said call ws)
 
-pub row-found : (call : ℕ → ℕ → Said) (ws : List (List ℕ)) (n : Numbers) {found : Numbers} → n ≡ numbersOf ws → n ≡ found
+pub row-found : (call : ℕ → ℕ → Question) (ws : List (List ℕ)) (n : Numbers) {found : Numbers} → n ≡ numbersOf ws → n ≡ found
     → rowSaid call found ≡ onRow call ws
 row-found call ws n e q = ap (rowSaid call) (sym q ∙ e) ∙ sym (row-said call ws)

@@ -4,7 +4,9 @@ use Prim.Native.Nat.{ℕ}
 use mathlib.Core.List.{List, [], _∷_}
 use lib.ListN.{replicate}
 use Rattle.said.specs.declared.Said.{Said}
-use Rattle.said.specs.declared.Said.the-variants.{Nothing, Unclear, Clear, Model, Delivery, Upper, Lower, Steps, Margin, Live}
+use Rattle.calls.specs.declared.Question.the-variants.{Upper, Lower, MeanSteps, Margin, Live}
+use Rattle.said.specs.declared.Change.the-variants.{Clear, Model, Delivery}
+use Rattle.said.specs.declared.Said.the-variants.{Nothing, Unclear, Change, Question}
 use Rattle.said.specs.Said.{saidBy}
 
 -- A line and what it says.
@@ -24,31 +26,31 @@ says b s = record { bytes = b; meaning = s }
 abbrev pub lines : List Line
 lines =
     -- clear
-    says (99 ∷ 108 ∷ 101 ∷ 97 ∷ 114 ∷ []) Clear
+    says (99 ∷ 108 ∷ 101 ∷ 97 ∷ 114 ∷ []) (Change Clear)
     -- model a
-    ∷ says (109 ∷ 111 ∷ 100 ∷ 101 ∷ 108 ∷ 32 ∷ 97 ∷ []) Model
+    ∷ says (109 ∷ 111 ∷ 100 ∷ 101 ∷ 108 ∷ 32 ∷ 97 ∷ []) (Change Model)
     -- delivery a
-    ∷ says (100 ∷ 101 ∷ 108 ∷ 105 ∷ 118 ∷ 101 ∷ 114 ∷ 121 ∷ 32 ∷ 97 ∷ []) Delivery
+    ∷ says (100 ∷ 101 ∷ 108 ∷ 105 ∷ 118 ∷ 101 ∷ 114 ∷ 121 ∷ 32 ∷ 97 ∷ []) (Change Delivery)
     -- upper 0 0 0
-    ∷ says (117 ∷ 112 ∷ 112 ∷ 101 ∷ 114 ∷ 32 ∷ 48 ∷ 32 ∷ 48 ∷ 32 ∷ 48 ∷ []) (Upper 0 0 0)
+    ∷ says (117 ∷ 112 ∷ 112 ∷ 101 ∷ 114 ∷ 32 ∷ 48 ∷ 32 ∷ 48 ∷ 32 ∷ 48 ∷ []) (Question (Upper 0 0 0))
     -- lower 1 2 3
-    ∷ says (108 ∷ 111 ∷ 119 ∷ 101 ∷ 114 ∷ 32 ∷ 49 ∷ 32 ∷ 50 ∷ 32 ∷ 51 ∷ []) (Lower 1 2 3)
+    ∷ says (108 ∷ 111 ∷ 119 ∷ 101 ∷ 114 ∷ 32 ∷ 49 ∷ 32 ∷ 50 ∷ 32 ∷ 51 ∷ []) (Question (Lower 1 2 3))
     -- steps 0 0
-    ∷ says (115 ∷ 116 ∷ 101 ∷ 112 ∷ 115 ∷ 32 ∷ 48 ∷ 32 ∷ 48 ∷ []) (Steps 0 0)
+    ∷ says (115 ∷ 116 ∷ 101 ∷ 112 ∷ 115 ∷ 32 ∷ 48 ∷ 32 ∷ 48 ∷ []) (Question (MeanSteps 0 0))
     -- steps 4 5
-    ∷ says (115 ∷ 116 ∷ 101 ∷ 112 ∷ 115 ∷ 32 ∷ 52 ∷ 32 ∷ 53 ∷ []) (Steps 4 5)
+    ∷ says (115 ∷ 116 ∷ 101 ∷ 112 ∷ 115 ∷ 32 ∷ 52 ∷ 32 ∷ 53 ∷ []) (Question (MeanSteps 4 5))
     -- margin
-    ∷ says (109 ∷ 97 ∷ 114 ∷ 103 ∷ 105 ∷ 110 ∷ []) Margin
+    ∷ says (109 ∷ 97 ∷ 114 ∷ 103 ∷ 105 ∷ 110 ∷ []) (Question Margin)
     -- live 7 15 6
-    ∷ says (108 ∷ 105 ∷ 118 ∷ 101 ∷ 32 ∷ 55 ∷ 32 ∷ 49 ∷ 53 ∷ 32 ∷ 54 ∷ []) (Live 7 15 6)
+    ∷ says (108 ∷ 105 ∷ 118 ∷ 101 ∷ 32 ∷ 55 ∷ 32 ∷ 49 ∷ 53 ∷ 32 ∷ 54 ∷ []) (Question (Live 7 15 6))
     -- upper 000000001 15 7
-    ∷ says (117 ∷ 112 ∷ 112 ∷ 101 ∷ 114 ∷ 32 ∷ 48 ∷ 48 ∷ 48 ∷ 48 ∷ 48 ∷ 48 ∷ 48 ∷ 48 ∷ 49 ∷ 32 ∷ 49 ∷ 53 ∷ 32 ∷ 55 ∷ []) (Upper 1 15 7)
+    ∷ says (117 ∷ 112 ∷ 112 ∷ 101 ∷ 114 ∷ 32 ∷ 48 ∷ 48 ∷ 48 ∷ 48 ∷ 48 ∷ 48 ∷ 48 ∷ 48 ∷ 49 ∷ 32 ∷ 49 ∷ 53 ∷ 32 ∷ 55 ∷ []) (Question (Upper 1 15 7))
     -- lower 123456789 0 987654321
-    ∷ says (108 ∷ 111 ∷ 119 ∷ 101 ∷ 114 ∷ 32 ∷ 49 ∷ 50 ∷ 51 ∷ 52 ∷ 53 ∷ 54 ∷ 55 ∷ 56 ∷ 57 ∷ 32 ∷ 48 ∷ 32 ∷ 57 ∷ 56 ∷ 55 ∷ 54 ∷ 53 ∷ 52 ∷ 51 ∷ 50 ∷ 49 ∷ []) (Lower 123456789 0 987654321)
+    ∷ says (108 ∷ 111 ∷ 119 ∷ 101 ∷ 114 ∷ 32 ∷ 49 ∷ 50 ∷ 51 ∷ 52 ∷ 53 ∷ 54 ∷ 55 ∷ 56 ∷ 57 ∷ 32 ∷ 48 ∷ 32 ∷ 57 ∷ 56 ∷ 55 ∷ 54 ∷ 53 ∷ 52 ∷ 51 ∷ 50 ∷ 49 ∷ []) (Question (Lower 123456789 0 987654321))
     -- steps 000000007 000000015
-    ∷ says (115 ∷ 116 ∷ 101 ∷ 112 ∷ 115 ∷ 32 ∷ 48 ∷ 48 ∷ 48 ∷ 48 ∷ 48 ∷ 48 ∷ 48 ∷ 48 ∷ 55 ∷ 32 ∷ 48 ∷ 48 ∷ 48 ∷ 48 ∷ 48 ∷ 48 ∷ 48 ∷ 49 ∷ 53 ∷ []) (Steps 7 15)
+    ∷ says (115 ∷ 116 ∷ 101 ∷ 112 ∷ 115 ∷ 32 ∷ 48 ∷ 48 ∷ 48 ∷ 48 ∷ 48 ∷ 48 ∷ 48 ∷ 48 ∷ 55 ∷ 32 ∷ 48 ∷ 48 ∷ 48 ∷ 48 ∷ 48 ∷ 48 ∷ 48 ∷ 49 ∷ 53 ∷ []) (Question (MeanSteps 7 15))
     -- live 999999999 999999999 999999999
-    ∷ says (108 ∷ 105 ∷ 118 ∷ 101 ∷ 32 ∷ 57 ∷ 57 ∷ 57 ∷ 57 ∷ 57 ∷ 57 ∷ 57 ∷ 57 ∷ 57 ∷ 32 ∷ 57 ∷ 57 ∷ 57 ∷ 57 ∷ 57 ∷ 57 ∷ 57 ∷ 57 ∷ 57 ∷ 32 ∷ 57 ∷ 57 ∷ 57 ∷ 57 ∷ 57 ∷ 57 ∷ 57 ∷ 57 ∷ 57 ∷ []) (Live 999999999 999999999 999999999)
+    ∷ says (108 ∷ 105 ∷ 118 ∷ 101 ∷ 32 ∷ 57 ∷ 57 ∷ 57 ∷ 57 ∷ 57 ∷ 57 ∷ 57 ∷ 57 ∷ 57 ∷ 32 ∷ 57 ∷ 57 ∷ 57 ∷ 57 ∷ 57 ∷ 57 ∷ 57 ∷ 57 ∷ 57 ∷ 32 ∷ 57 ∷ 57 ∷ 57 ∷ 57 ∷ 57 ∷ 57 ∷ 57 ∷ 57 ∷ 57 ∷ []) (Question (Live 999999999 999999999 999999999))
     -- upper 0000000001 15 7
     ∷ says (117 ∷ 112 ∷ 112 ∷ 101 ∷ 114 ∷ 32 ∷ 48 ∷ 48 ∷ 48 ∷ 48 ∷ 48 ∷ 48 ∷ 48 ∷ 48 ∷ 48 ∷ 49 ∷ 32 ∷ 49 ∷ 53 ∷ 32 ∷ 55 ∷ []) Unclear
     -- upper 1 0000000015 7
@@ -144,21 +146,21 @@ lines =
     -- delivery a b
     ∷ says (100 ∷ 101 ∷ 108 ∷ 105 ∷ 118 ∷ 101 ∷ 114 ∷ 121 ∷ 32 ∷ 97 ∷ 32 ∷ 98 ∷ []) Unclear
     -- model !
-    ∷ says (109 ∷ 111 ∷ 100 ∷ 101 ∷ 108 ∷ 32 ∷ 33 ∷ []) Model
+    ∷ says (109 ∷ 111 ∷ 100 ∷ 101 ∷ 108 ∷ 32 ∷ 33 ∷ []) (Change Model)
     -- model ~
-    ∷ says (109 ∷ 111 ∷ 100 ∷ 101 ∷ 108 ∷ 32 ∷ 126 ∷ []) Model
+    ∷ says (109 ∷ 111 ∷ 100 ∷ 101 ∷ 108 ∷ 32 ∷ 126 ∷ []) (Change Model)
     -- model #
-    ∷ says (109 ∷ 111 ∷ 100 ∷ 101 ∷ 108 ∷ 32 ∷ 35 ∷ []) Model
+    ∷ says (109 ∷ 111 ∷ 100 ∷ 101 ∷ 108 ∷ 32 ∷ 35 ∷ []) (Change Model)
     -- model 0
-    ∷ says (109 ∷ 111 ∷ 100 ∷ 101 ∷ 108 ∷ 32 ∷ 48 ∷ []) Model
+    ∷ says (109 ∷ 111 ∷ 100 ∷ 101 ∷ 108 ∷ 32 ∷ 48 ∷ []) (Change Model)
     -- delivery ../w/bounds.cer
-    ∷ says (100 ∷ 101 ∷ 108 ∷ 105 ∷ 118 ∷ 101 ∷ 114 ∷ 121 ∷ 32 ∷ 46 ∷ 46 ∷ 47 ∷ 119 ∷ 47 ∷ 98 ∷ 111 ∷ 117 ∷ 110 ∷ 100 ∷ 115 ∷ 46 ∷ 99 ∷ 101 ∷ 114 ∷ []) Delivery
+    ∷ says (100 ∷ 101 ∷ 108 ∷ 105 ∷ 118 ∷ 101 ∷ 114 ∷ 121 ∷ 32 ∷ 46 ∷ 46 ∷ 47 ∷ 119 ∷ 47 ∷ 98 ∷ 111 ∷ 117 ∷ 110 ∷ 100 ∷ 115 ∷ 46 ∷ 99 ∷ 101 ∷ 114 ∷ []) (Change Delivery)
     -- model é (in UTF-8)
-    ∷ says (109 ∷ 111 ∷ 100 ∷ 101 ∷ 108 ∷ 32 ∷ 195 ∷ 169 ∷ []) Model
+    ∷ says (109 ∷ 111 ∷ 100 ∷ 101 ∷ 108 ∷ 32 ∷ 195 ∷ 169 ∷ []) (Change Model)
     -- model and byte 128
-    ∷ says (109 ∷ 111 ∷ 100 ∷ 101 ∷ 108 ∷ 32 ∷ 128 ∷ []) Model
+    ∷ says (109 ∷ 111 ∷ 100 ∷ 101 ∷ 108 ∷ 32 ∷ 128 ∷ []) (Change Model)
     -- delivery and byte 255
-    ∷ says (100 ∷ 101 ∷ 108 ∷ 105 ∷ 118 ∷ 101 ∷ 114 ∷ 121 ∷ 32 ∷ 255 ∷ []) Delivery
+    ∷ says (100 ∷ 101 ∷ 108 ∷ 105 ∷ 118 ∷ 101 ∷ 114 ∷ 121 ∷ 32 ∷ 255 ∷ []) (Change Delivery)
     -- clear and a carriage return
     ∷ says (99 ∷ 108 ∷ 101 ∷ 97 ∷ 114 ∷ 13 ∷ []) Unclear
     -- clear and a NUL
@@ -188,11 +190,11 @@ lines =
     -- steps : 0
     ∷ says (115 ∷ 116 ∷ 101 ∷ 112 ∷ 115 ∷ 32 ∷ 58 ∷ 32 ∷ 48 ∷ []) Unclear
     -- model and a name of 255 bytes
-    ∷ says (109 ∷ 111 ∷ 100 ∷ 101 ∷ 108 ∷ 32 ∷ replicate 255 97) Model
+    ∷ says (109 ∷ 111 ∷ 100 ∷ 101 ∷ 108 ∷ 32 ∷ replicate 255 97) (Change Model)
     -- model and a name of 256 bytes
     ∷ says (109 ∷ 111 ∷ 100 ∷ 101 ∷ 108 ∷ 32 ∷ replicate 256 97) Unclear
     -- delivery and a name of 255 bytes
-    ∷ says (100 ∷ 101 ∷ 108 ∷ 105 ∷ 118 ∷ 101 ∷ 114 ∷ 121 ∷ 32 ∷ replicate 255 195) Delivery
+    ∷ says (100 ∷ 101 ∷ 108 ∷ 105 ∷ 118 ∷ 101 ∷ 114 ∷ 121 ∷ 32 ∷ replicate 255 195) (Change Delivery)
     -- delivery and a name of 256 bytes
     ∷ says (100 ∷ 101 ∷ 108 ∷ 105 ∷ 118 ∷ 101 ∷ 114 ∷ 121 ∷ 32 ∷ replicate 256 195) Unclear
     -- 300 bytes

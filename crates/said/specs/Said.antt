@@ -5,8 +5,12 @@ use mathlib.Core.List.{List, [], _∷_}
 use lib.Dec.{eqb, leb}
 use lib.ListN.{length}
 use Rattle.text.specs.Reading.{pieces, numberIn}
+use Rattle.calls.specs.declared.Question.{Question}
+use Rattle.calls.specs.declared.Question.the-variants.{Upper, Lower, MeanSteps, Margin, Live}
+use Rattle.said.specs.declared.Change.the-variants.{Clear, Model, Delivery}
 use Rattle.said.specs.declared.Said.{Said}
-use Rattle.said.specs.declared.Said.the-variants.{Nothing, Unclear, Clear, Model, Delivery, Upper, Lower, Steps, Margin, Live}
+use Rattle.said.specs.declared.Said.the-variants as Says
+use Rattle.said.specs.declared.Said.the-variants.{Nothing, Unclear}
 
 -- ---- bytes and words
 
@@ -63,20 +67,20 @@ isFile (w ∷ v ∷ ws) = false
 abbrev pub onFile : Said → List (List ℕ) → Said
 onFile call ws = cond (isFile ws) call Unclear
 
--- Two numbers: p and Z.
-abbrev pub onRow : (ℕ → ℕ → Said) → List (List ℕ) → Said
-onRow call [] = Unclear
-onRow call (p ∷ []) = Unclear
-onRow call (p ∷ z ∷ []) = cond (isNumber p && isNumber z) (call (numberIn p) (numberIn z)) Unclear
-onRow call (p ∷ z ∷ w ∷ ws) = Unclear
+-- Two numbers, p and Z, of a question.
+abbrev pub onRow : (ℕ → ℕ → Question) → List (List ℕ) → Said
+onRow ask [] = Unclear
+onRow ask (p ∷ []) = Unclear
+onRow ask (p ∷ z ∷ []) = cond (isNumber p && isNumber z) (Says.Question (ask (numberIn p) (numberIn z))) Unclear
+onRow ask (p ∷ z ∷ w ∷ ws) = Unclear
 
--- Three numbers: p, Z and q.
-abbrev pub onEntry : (ℕ → ℕ → ℕ → Said) → List (List ℕ) → Said
-onEntry call [] = Unclear
-onEntry call (p ∷ []) = Unclear
-onEntry call (p ∷ z ∷ []) = Unclear
-onEntry call (p ∷ z ∷ q ∷ []) = cond (isNumber p && (isNumber z && isNumber q)) (call (numberIn p) (numberIn z) (numberIn q)) Unclear
-onEntry call (p ∷ z ∷ q ∷ w ∷ ws) = Unclear
+-- Three numbers, p, Z and q, of a question.
+abbrev pub onEntry : (ℕ → ℕ → ℕ → Question) → List (List ℕ) → Said
+onEntry ask [] = Unclear
+onEntry ask (p ∷ []) = Unclear
+onEntry ask (p ∷ z ∷ []) = Unclear
+onEntry ask (p ∷ z ∷ q ∷ []) = cond (isNumber p && (isNumber z && isNumber q)) (Says.Question (ask (numberIn p) (numberIn z) (numberIn q))) Unclear
+onEntry ask (p ∷ z ∷ q ∷ w ∷ ws) = Unclear
 
 -- ---- the calls by their first words
 
@@ -108,13 +112,13 @@ liveWord = 108 ∷ 105 ∷ 118 ∷ 101 ∷ []
 -- What a first word and the words after it say.
 unfoldable pub byWord : List ℕ → List (List ℕ) → Said
 byWord w ws =
-    cond (same w clearWord) (alone Clear ws)
-    (cond (same w modelWord) (onFile Model ws)
-    (cond (same w deliveryWord) (onFile Delivery ws)
+    cond (same w clearWord) (alone (Says.Change Clear) ws)
+    (cond (same w modelWord) (onFile (Says.Change Model) ws)
+    (cond (same w deliveryWord) (onFile (Says.Change Delivery) ws)
     (cond (same w upperWord) (onEntry Upper ws)
     (cond (same w lowerWord) (onEntry Lower ws)
-    (cond (same w stepsWord) (onRow Steps ws)
-    (cond (same w marginWord) (alone Margin ws)
+    (cond (same w stepsWord) (onRow MeanSteps ws)
+    (cond (same w marginWord) (alone (Says.Question Margin) ws)
     (cond (same w liveWord) (onEntry Live ws) Unclear)))))))
 
 -- What the words of a line say. (A line has at least one word, an empty one at least.)

@@ -3,6 +3,7 @@
 use arguments::Numbers;
 use arguments::is_file;
 use arguments::numbers_in;
+use calls::Question;
 use spelling::is_plain;
 use spelling::is_word;
 use spelling::word_end;
@@ -14,19 +15,19 @@ ghost use mathlib.Core.Path.{_≡_};
 ghost use Rattle.said.specs.Said.{saidBy, isSilent, byWord, alone, onFile, onRow, onEntry};
 ghost use Rattle.said.specs.Contracts.{argumentsIn};
 
-// A call by its words, `Nothing` for a line that gets no reply, and `Unclear` for one that says no call. The file that a filing names is the second word
-// of the line.
-pub enum Said {
-    Nothing,
-    Unclear,
+// A call that may change the register. The file that a filing names is the second word of its line.
+pub enum Change {
     Clear,
     Model,
     Delivery,
-    Upper { p: usize, z: usize, q: usize },
-    Lower { p: usize, z: usize, q: usize },
-    Steps { p: usize, z: usize },
-    Margin,
-    Live { p: usize, z: usize, q: usize },
+}
+
+// What a line says: nothing that wants a reply, no call, or a call.
+pub enum Said {
+    Nothing,
+    Unclear,
+    Change(Change),
+    Question(Question),
 }
 
 // Whether a line gets no reply: it is empty, or starts with `#`.
@@ -55,10 +56,10 @@ fn on_file(rest: &[u8], call: Said) -> Said
 
 // The upper of an entry.
 fn upper(rest: &[u8]) -> Said
-    ensures { λ r. ⌜ r ≡ onEntry Said.Upper (argumentsIn (now (rest .entry))) ⌝ }
+    ensures { λ r. ⌜ r ≡ onEntry Question.Upper (argumentsIn (now (rest .entry))) ⌝ }
 {
     match numbers_in(rest) {
-        Numbers::Three { a, b, c } => Said::Upper { p: a, z: b, q: c },
+        Numbers::Three { a, b, c } => Said::Question(Question::Upper { p: a, z: b, q: c }),
         Numbers::Two { .. } => Said::Unclear,
         Numbers::Other => Said::Unclear,
     }
@@ -66,10 +67,10 @@ fn upper(rest: &[u8]) -> Said
 
 // The lower of an entry.
 fn lower(rest: &[u8]) -> Said
-    ensures { λ r. ⌜ r ≡ onEntry Said.Lower (argumentsIn (now (rest .entry))) ⌝ }
+    ensures { λ r. ⌜ r ≡ onEntry Question.Lower (argumentsIn (now (rest .entry))) ⌝ }
 {
     match numbers_in(rest) {
-        Numbers::Three { a, b, c } => Said::Lower { p: a, z: b, q: c },
+        Numbers::Three { a, b, c } => Said::Question(Question::Lower { p: a, z: b, q: c }),
         Numbers::Two { .. } => Said::Unclear,
         Numbers::Other => Said::Unclear,
     }
@@ -77,10 +78,10 @@ fn lower(rest: &[u8]) -> Said
 
 // The live mark of an entry.
 fn live(rest: &[u8]) -> Said
-    ensures { λ r. ⌜ r ≡ onEntry Said.Live (argumentsIn (now (rest .entry))) ⌝ }
+    ensures { λ r. ⌜ r ≡ onEntry Question.Live (argumentsIn (now (rest .entry))) ⌝ }
 {
     match numbers_in(rest) {
-        Numbers::Three { a, b, c } => Said::Live { p: a, z: b, q: c },
+        Numbers::Three { a, b, c } => Said::Question(Question::Live { p: a, z: b, q: c }),
         Numbers::Two { .. } => Said::Unclear,
         Numbers::Other => Said::Unclear,
     }
@@ -88,10 +89,10 @@ fn live(rest: &[u8]) -> Said
 
 // The mean steps of a row.
 fn steps(rest: &[u8]) -> Said
-    ensures { λ r. ⌜ r ≡ onRow Said.Steps (argumentsIn (now (rest .entry))) ⌝ }
+    ensures { λ r. ⌜ r ≡ onRow Question.MeanSteps (argumentsIn (now (rest .entry))) ⌝ }
 {
     match numbers_in(rest) {
-        Numbers::Two { a, b } => Said::Steps { p: a, z: b },
+        Numbers::Two { a, b } => Said::Question(Question::MeanSteps { p: a, z: b }),
         Numbers::Three { .. } => Said::Unclear,
         Numbers::Other => Said::Unclear,
     }
@@ -102,13 +103,13 @@ fn by_word(word: &[u8], rest: &[u8]) -> Said
     ensures { λ r. ⌜ r ≡ byWord (now (word .entry)) (argumentsIn (now (rest .entry))) ⌝ }
 {
     if is_word(word, b"clear") {
-        return alone(rest, Said::Clear);
+        return alone(rest, Said::Change(Change::Clear));
     }
     if is_word(word, b"model") {
-        return on_file(rest, Said::Model);
+        return on_file(rest, Said::Change(Change::Model));
     }
     if is_word(word, b"delivery") {
-        return on_file(rest, Said::Delivery);
+        return on_file(rest, Said::Change(Change::Delivery));
     }
     if is_word(word, b"upper") {
         return upper(rest);
@@ -120,7 +121,7 @@ fn by_word(word: &[u8], rest: &[u8]) -> Said
         return steps(rest);
     }
     if is_word(word, b"margin") {
-        return alone(rest, Said::Margin);
+        return alone(rest, Said::Question(Question::Margin));
     }
     if is_word(word, b"live") {
         return live(rest);

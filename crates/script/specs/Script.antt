@@ -4,8 +4,11 @@ use mathlib.Core.Bool.{Bool, false, not}
 use mathlib.Core.List.{List, [], _∷_, _++_, map}
 use mathlib.Core.Path.{_≡_}
 use Rattle.text.specs.Reading.{pieces}
-use Rattle.calls.specs.Calls.{Call, clear, fileModel, fileDelivery, upper, lower, meanSteps, margin, live}
+use Rattle.calls.specs.Calls.{Call, clear, fileModel, fileDelivery}
+use Rattle.calls.specs.Answers.{questionCall}
 use Rattle.history.specs.Plain.{Event, pairOf, plainReply}
+use Rattle.said.specs.declared.Change.{Change}
+use Rattle.said.specs.declared.Change.the-variants.{Clear, Model, Delivery}
 use Rattle.said.specs.declared.Said.{Said}
 use Rattle.said.specs.declared.Said.the-variants as Says
 use Rattle.said.specs.Said.{saidBy}
@@ -23,33 +26,31 @@ pub data Asked : Type 0 where
   call : (c : Call) → Asked
 
 -- What is said, where the file that it names has these bytes.
+abbrev pub changeCall : Change → List ℕ → Call
+changeCall Clear f = clear
+changeCall Model f = fileModel f
+changeCall Delivery f = fileDelivery f
+
 abbrev pub askedBy : Said → List ℕ → Asked
 askedBy Says.Nothing f = nothing
 askedBy Says.Unclear f = unclear
-askedBy Says.Clear f = call clear
-askedBy Says.Model f = call (fileModel f)
-askedBy Says.Delivery f = call (fileDelivery f)
-askedBy (Says.Upper p z q) f = call (upper p z q)
-askedBy (Says.Lower p z q) f = call (lower p z q)
-askedBy (Says.Steps p z) f = call (meanSteps p z)
-askedBy Says.Margin f = call margin
-askedBy (Says.Live p z q) f = call (live p z q)
+askedBy (Says.Change c) f = call (changeCall c f)
+askedBy (Says.Question a) f = call (questionCall a)
 
 abbrev pub asks : Line → Asked
 asks l = askedBy (saidBy (l .bytes)) (l .file)
 
 -- Whether a file is read, by whether a model is held: the register's own reasons, 41 and 40, come before any file is read.
+abbrev pub changeReads : Bool → Change → Bool
+changeReads held Clear = false
+changeReads held Model = not held
+changeReads held Delivery = held
+
 abbrev pub readsFile : Bool → Said → Bool
 readsFile held Says.Nothing = false
 readsFile held Says.Unclear = false
-readsFile held Says.Clear = false
-readsFile held Says.Model = not held
-readsFile held Says.Delivery = held
-readsFile held (Says.Upper p z q) = false
-readsFile held (Says.Lower p z q) = false
-readsFile held (Says.Steps p z) = false
-readsFile held Says.Margin = false
-readsFile held (Says.Live p z q) = false
+readsFile held (Says.Change c) = changeReads held c
+readsFile held (Says.Question a) = false
 
 -- ---- what is printed, after the history es (latest first)
 

@@ -4,13 +4,14 @@ use model::format::MOST_ENTRIES;
 use questions::Shown;
 use register::Register;
 use replies::Response;
+use said::Change;
 use said::Said;
 ghost use mathlib.Core.Path.{_≡_};
 ghost use Rattle.register.specs.Filing.{cleared};
 ghost use Rattle.replies.specs.declared.Response.the-variants.{Silence, Cleared};
-ghost use Rattle.said.specs.declared.Said.the-variants.{Model, Delivery};
-ghost use Rattle.script.specs.Script.{readsFile};
-ghost use Rattle.script.specs.Contracts.{mayChange, answeredFrom, responded, changedBy};
+ghost use Rattle.said.specs.declared.Change.the-variants.{Model, Delivery};
+ghost use Rattle.script.specs.Script.{changeReads, readsFile};
+ghost use Rattle.script.specs.Contracts.{mayChange, answeredFrom, responded, changeMade, changedBy};
 
 // The register after a line, and the response.
 pub struct Responded {
@@ -25,32 +26,31 @@ pub fn may_change(said: Said) -> bool
     match said {
         Said::Nothing => false,
         Said::Unclear => false,
-        Said::Clear => true,
-        Said::Model => true,
-        Said::Delivery => true,
-        Said::Upper { .. } => false,
-        Said::Lower { .. } => false,
-        Said::Steps { .. } => false,
-        Said::Margin => false,
-        Said::Live { .. } => false,
+        Said::Change(_) => true,
+        Said::Question(_) => false,
     }
 }
 
-// Whether a line's file is read, by whether a model is held: the register's own reasons come first.
+// Whether the file of a change is read, by whether a model is held: the register's own reasons come first.
+fn change_reads(held: bool, change: Change) -> bool
+    ensures { λ r. ⌜ r ≡ changeReads held change ⌝ }
+{
+    match change {
+        Change::Clear => false,
+        Change::Model => !held,
+        Change::Delivery => held,
+    }
+}
+
+// Whether a line's file is read.
 pub fn reads_file(held: bool, said: Said) -> bool
     ensures { λ r. ⌜ r ≡ readsFile held said ⌝ }
 {
     match said {
         Said::Nothing => false,
         Said::Unclear => false,
-        Said::Clear => false,
-        Said::Model => !held,
-        Said::Delivery => held,
-        Said::Upper { .. } => false,
-        Said::Lower { .. } => false,
-        Said::Steps { .. } => false,
-        Said::Margin => false,
-        Said::Live { .. } => false,
+        Said::Change(change) => change_reads(held, change),
+        Said::Question(_) => false,
     }
 }
 
@@ -68,14 +68,37 @@ pub fn answer<'a>(
     match said {
         Said::Nothing => Response::Silence,
         Said::Unclear => Response::Unclear,
-        Said::Clear => Response::Silence,
-        Said::Model => Response::Silence,
-        Said::Delivery => Response::Silence,
-        Said::Upper { p, z, q } => Response::Answered(questions::upper(held, uppers, p, z, q)),
-        Said::Lower { p, z, q } => Response::Answered(questions::lower(held, lowers, p, z, q)),
-        Said::Steps { p, z } => Response::Answered(questions::mean_steps(held, means, p, z)),
-        Said::Margin => Response::Answered(questions::margin(held)),
-        Said::Live { p, z, q } => Response::Answered(questions::live(held, marks, p, z, q)),
+        Said::Change(_) => Response::Silence,
+        Said::Question(question) => {
+            Response::Answered(questions::answer(held, marks, uppers, lowers, means, question))
+        }
+    }
+}
+
+// Files a model.
+fn file_model(register: Register, file: &[u8]) -> Responded
+    ensures { λ r. ⌜ r ≡ changeMade register Model (now (file .entry)) ⌝ }
+{
+    let filed = register.file_model(file);
+    let after = filed.register;
+    let outcome = filed.outcome;
+    Responded {
+        register: after,
+        response: Response::Filed(outcome),
+    }
+}
+
+// Files a delivery.
+fn file_delivery(register: Register, file: &[u8]) -> Responded
+    ensures { λ r. ⌜ r ≡ changeMade register Delivery (now (file .entry)) ⌝ }
+{
+    let received = register.file_delivery(file);
+    let after = received.register;
+    let outcome = received.outcome;
+    let mark = received.mark;
+    Responded {
+        register: after,
+        response: Response::Received { outcome, mark },
     }
 }
 
@@ -89,30 +112,14 @@ fn clear(register: Register) -> Responded
     }
 }
 
-// Files a model.
-fn file_model(register: Register, file: &[u8]) -> Responded
-    ensures { λ r. ⌜ r ≡ changedBy register Model (now (file .entry)) ⌝ }
+// Makes a change, where the file that is named has these bytes.
+fn make(register: Register, change: Change, file: &[u8]) -> Responded
+    ensures { λ r. ⌜ r ≡ changeMade register change (now (file .entry)) ⌝ }
 {
-    let filed = register.file_model(file);
-    let after = filed.register;
-    let outcome = filed.outcome;
-    Responded {
-        register: after,
-        response: Response::Filed(outcome),
-    }
-}
-
-// Files a delivery.
-fn file_delivery(register: Register, file: &[u8]) -> Responded
-    ensures { λ r. ⌜ r ≡ changedBy register Delivery (now (file .entry)) ⌝ }
-{
-    let received = register.file_delivery(file);
-    let after = received.register;
-    let outcome = received.outcome;
-    let mark = received.mark;
-    Responded {
-        register: after,
-        response: Response::Received { outcome, mark },
+    match change {
+        Change::Clear => clear(register),
+        Change::Model => file_model(register, file),
+        Change::Delivery => file_delivery(register, file),
     }
 }
 
@@ -133,13 +140,7 @@ pub fn change(register: Register, said: Said, file: &[u8]) -> Responded
     match said {
         Said::Nothing => keep(register),
         Said::Unclear => keep(register),
-        Said::Clear => clear(register),
-        Said::Model => file_model(register, file),
-        Said::Delivery => file_delivery(register, file),
-        Said::Upper { .. } => keep(register),
-        Said::Lower { .. } => keep(register),
-        Said::Steps { .. } => keep(register),
-        Said::Margin => keep(register),
-        Said::Live { .. } => keep(register),
+        Said::Change(change) => make(register, change, file),
+        Said::Question(_) => keep(register),
     }
 }

@@ -7,8 +7,9 @@ use lib.Dec.{ltb}
 use lib.ListN.{length, set}
 use Rattle.register.specs.declared.Register.{Register}
 use Rattle.register.specs.Questions.{hasModel}
+use Rattle.said.specs.declared.Change.{Change}
+use Rattle.said.specs.declared.Change.the-variants.{Clear, Model, Delivery}
 use Rattle.said.specs.declared.Said.{Said}
-use Rattle.said.specs.declared.Said.the-variants as Says
 use Rattle.said.specs.Said.{modelWord, deliveryWord}
 use Rattle.script.specs.declared.Responded.{Responded}
 use Rattle.script.specs.Script.{readsFile}
@@ -16,17 +17,10 @@ use Rattle.script.specs.Serving.{keptBytes}
 use Rattle.script.specs.Contracts.{changedBy}
 
 -- Where the name stands in the line: after the word and a space.
-abbrev pub nameFrom : Said → ℕ
-nameFrom Says.Nothing = 0
-nameFrom Says.Unclear = 0
-nameFrom Says.Clear = 0
-nameFrom Says.Model = length modelWord + 1
-nameFrom Says.Delivery = length deliveryWord + 1
-nameFrom (Says.Upper p z q) = 0
-nameFrom (Says.Lower p z q) = 0
-nameFrom (Says.Steps p z) = 0
-nameFrom Says.Margin = 0
-nameFrom (Says.Live p z q) = 0
+abbrev pub nameFrom : Change → ℕ
+nameFrom Clear = 0
+nameFrom Model = length modelWord + 1
+nameFrom Delivery = length deliveryWord + 1
 
 -- The change was made, with some bytes for the file, and none where it is not read.
 pub record Performed (r : Register) (s : Said) (x : Responded) : Type 0 where

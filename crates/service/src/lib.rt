@@ -4,6 +4,7 @@ use questions::View;
 use register::Register;
 use replies::REPLY_ROOM;
 use replies::put_response;
+use said::Change;
 use said::Said;
 use said::said_by;
 use script::Responded;
@@ -53,29 +54,25 @@ fn least(a: usize, b: usize) -> usize
     if a < b { a } else { b }
 }
 
-// Where the name of a file stands in the line of a filing: after its word and a space.
-fn name_from(said: Said) -> usize
-    ensures { λ r. ⌜ r ≡ nameFrom said ⌝ }
+// Where the name of a file stands in the line of a change: after its word and a space.
+fn name_from(change: Change) -> usize
+    ensures { λ r. ⌜ r ≡ nameFrom change ⌝ }
 {
-    match said {
-        Said::Nothing => 0,
-        Said::Unclear => 0,
-        Said::Clear => 0,
-        Said::Model => 6,
-        Said::Delivery => 9,
-        Said::Upper { .. } => 0,
-        Said::Lower { .. } => 0,
-        Said::Steps { .. } => 0,
-        Said::Margin => 0,
-        Said::Live { .. } => 0,
+    match change {
+        Change::Clear => 0,
+        Change::Model => 6,
+        Change::Delivery => 9,
     }
 }
 
-// Reads the file that a filing names, as much as `file` holds.
+// Reads the file that a line names, as much as `file` holds; nothing where it names none.
 fn fetch(said: Said, line: &[u8], file: &mut [u8]) -> usize
     ensures { λ r. ⌜ Counts r (now (file .exit)) ⌝ }
 {
-    let from = name_from(said);
+    let Said::Change(change) = said else {
+        return 0;
+    };
+    let from = name_from(change);
     if line.len() < from {
         return 0;
     }

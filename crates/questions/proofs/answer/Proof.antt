@@ -1,0 +1,69 @@
+-- `answer`: by cases of the question, its own function.
+use borrow.Author.Needs.{needs}
+use Rattle.questions.proofs.answer.Statement.{statement}
+use Rattle.questions.proofs.answer.Tie as tie
+
+enum-known-question : tie.Need-enum-known-question
+enum-known-question c = search needs
+
+upper-requires : tie.Need-upper-requires
+upper-requires c κs = search needs
+
+enum-known-question-2 : tie.Need-enum-known-question-2
+enum-known-question-2 c = search needs
+
+lower-requires : tie.Need-lower-requires
+lower-requires c κs = search needs
+
+enum-known-question-3 : tie.Need-enum-known-question-3
+enum-known-question-3 c = search needs
+
+mean-steps-requires : tie.Need-mean-steps-requires
+mean-steps-requires c κs = search needs
+
+enum-told : tie.Need-enum-told
+enum-told c = search needs
+
+margin-requires : tie.Need-margin-requires
+margin-requires c κs = search needs
+
+enum-known-question-4 : tie.Need-enum-known-question-4
+enum-known-question-4 c = search needs
+
+live-requires : tie.Need-live-requires
+live-requires c κs = search needs
+
+returns : tie.Need-returns
+returns c = rw (c .before .before .question .given .1) (c .upper .ensures)
+
+returns-2 : tie.Need-returns-2
+returns-2 c = rw (c .before .before .question2 .given .1) (c .lower .ensures)
+
+returns-3 : tie.Need-returns-3
+returns-3 c = rw (c .before .before .question3 .given .1) (c .mean-steps .ensures)
+
+returns-4 : tie.Need-returns-4
+returns-4 c = rw (c .before .enum-told .given .1) (c .margin .ensures)
+
+returns-5 : tie.Need-returns-5
+returns-5 c = rw (c .before .before .question4 .given .1) (c .live .ensures)
+
+pub answer-spec : {M : Type 1} → statement M
+answer-spec =
+    tie.close
+    (tie.spec
+    enum-known-question
+    upper-requires
+    enum-known-question-2
+    lower-requires
+    enum-known-question-3
+    mean-steps-requires
+    enum-told
+    margin-requires
+    enum-known-question-4
+    live-requires
+    returns
+    returns-2
+    returns-3
+    returns-4
+    returns-5)

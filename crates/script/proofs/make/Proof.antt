@@ -1,0 +1,45 @@
+-- `make`: by cases of the change.
+use borrow.Author.Needs.{needs}
+use Rattle.script.proofs.make.Statement.{statement}
+use Rattle.script.proofs.make.Tie as tie
+
+enum-told : tie.Need-enum-told
+enum-told c = search needs
+
+clear-requires : tie.Need-clear-requires
+clear-requires c κs = search needs
+
+enum-told-2 : tie.Need-enum-told-2
+enum-told-2 c = search needs
+
+file-model-requires : tie.Need-file-model-requires
+file-model-requires c κs = search needs
+
+enum-told-3 : tie.Need-enum-told-3
+enum-told-3 c = search needs
+
+file-delivery-requires : tie.Need-file-delivery-requires
+file-delivery-requires c κs = search needs
+
+returns : tie.Need-returns
+returns c = search needs
+
+returns-2 : tie.Need-returns-2
+returns-2 c = rw (c .before .enum-told2 .given .1) (c .file-model .ensures)
+
+returns-3 : tie.Need-returns-3
+returns-3 c = rw (c .before .enum-told3 .given .1) (c .file-delivery .ensures)
+
+pub make-spec : {M : Type 1} → statement M
+make-spec =
+    tie.close
+    (tie.spec
+    enum-told
+    clear-requires
+    enum-told-2
+    file-model-requires
+    enum-told-3
+    file-delivery-requires
+    returns
+    returns-2
+    returns-3)
