@@ -189,16 +189,16 @@ def notices_failed_showbounds(tree):
         need(ran.lines()[-1].startswith("show: showbounds "), "%s: not the line" % what, ran)
 
 
-# Files that cannot be read.
+# Files that cannot be read, of which the program warns.
 
 def hindrances(path):
-    """(what, word of the warning, how `path` is made so)."""
-    yield "a directory", "directory", path.mkdir
-    yield "a FIFO", "FIFO", lambda: os.mkfifo(path)
-    yield "a socket", "no plain file", lambda: os.mknod(path, stat.S_IFSOCK | 0o644)
-    yield "a link to nothing", "No such file", lambda: path.symlink_to("nothing")
-    yield "a link to itself", "symbolic links", lambda: path.symlink_to(path.name)
-    yield "a link to a directory", "directory", lambda: path.symlink_to(".")
+    """(what, the warning after the name or None, how `path` is made so)."""
+    yield "a directory", "Is a directory", path.mkdir
+    yield "a FIFO", "a pipe, not opened", lambda: os.mkfifo(path)
+    yield "a socket", "No such device or address", lambda: os.mknod(path, stat.S_IFSOCK | 0o644)
+    yield "a link to nothing", None, lambda: path.symlink_to("nothing")
+    yield "a link to itself", "Too many levels of symbolic links", lambda: path.symlink_to(path.name)
+    yield "a link to a directory", "Is a directory", lambda: path.symlink_to(".")
     yield "an error while reading", "Input/output error", lambda: path.symlink_to("/proc/self/mem")
     yield "a file without rights", "Permission denied", lambda: (path.touch(), path.chmod(0))
 
@@ -211,23 +211,30 @@ def warns_of_unreadable(tree):
     put(tree.work)
     tree.run("show")
     for name in FILES:
-        for what, word, make in hindrances(tree.work / name):
+        for what, warning, make in hindrances(tree.work / name):
             remove(tree.work / name)
             make()
             ran = tree.run("show", **standin.nobody())
-            need_ran("%s as %s" % (what, name), ran, 1, REFUSED_EMPTY[name], lines=1)
-            need(ran.err.startswith("show: %s: " % name) and word in ran.err, "%s as %s: not the warning" % (what, name), ran)
-            need(not list(tree.room.iterdir()), "%s as %s: a temporary folder is left" % (what, name))
+            need_ran("%s as %s" % (what, name), ran, 1, REFUSED_EMPTY[name])
+            need(ran.err == ("%s: %s\n" % (name, warning) if warning else ""), "%s as %s: not the warning" % (what, name), ran)
         remove(tree.work / name)
         need_ran("no %s" % name, tree.run("show"), 1, REFUSED_EMPTY[name], lines=0)
         put(tree.work)
     (tree.work / FILES[0]).unlink()
     (tree.work / FILES[0]).symlink_to(W / FILES[0])
     need_ran("a link to a file", tree.run("show"), 0, W_PRINTED, lines=0)
+
+
+def shows_without_warnings(tree):
     for name in FILES:
-        (tree.work / name).unlink()
         (tree.work / name).mkdir()
+    tree.run("show")
     need_ran("two directories", tree.run("show"), 1, b"refused 10 0 0\n", lines=2)
+    reader, writer = os.pipe()
+    os.close(reader)
+    need_ran("nobody reads warnings", tree.run("show", stderr=writer), 1, b"refused 10 0 0\n")
+    os.close(writer)
+    need_ran("standard error closed", tree.run("show", by=["sh", "-c", 'exec "$0" "$@" 2>&-']), 1, b"refused 10 0 0\n")
 
 
 # What is built again, and when.
@@ -489,9 +496,9 @@ def show_needs_no_compiler(tree):
 
 
 CHECKS = [shows_examples, refuses_wrong_use, refuses_shut_folder, checks_folder_named, found_through_links, tells_use_and_version, tells_commit, notices_lost_output,
-          notices_failed_showbounds, warns_of_unreadable, builds_with_few_lines, builds_what_changed, builds_what_is_lost, builds_again_after_edit_beside, tells_failed_build,
-          tells_shut_target, builds_once_for_two, desk_hands_through, desk_answers_at_once, desk_tells_how_it_ended, desk_goes_on_without_warnings, test_tells_what_failed,
-          test_installs_what_is_missing, show_needs_no_compiler]
+          notices_failed_showbounds, warns_of_unreadable, shows_without_warnings, builds_with_few_lines, builds_what_changed, builds_what_is_lost,
+          builds_again_after_edit_beside, tells_failed_build, tells_shut_target, builds_once_for_two, desk_hands_through, desk_answers_at_once, desk_tells_how_it_ended,
+          desk_goes_on_without_warnings, test_tells_what_failed, test_installs_what_is_missing, show_needs_no_compiler]
 
 
 def first_fault(scripts, programs):

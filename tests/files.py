@@ -76,6 +76,8 @@ KINDS = [  # what stands in a file's place, how it is put there, what standard e
     ("unreadable", put_unreadable, "Permission denied"),
     ("a link to itself", lambda path: path.symlink_to(path.name), "Too many levels of symbolic links"),
     ("a link to a name that is too long", link_to("x" * 300), "File name too long"),
+    ("a device that is empty", link_to("/dev/null"), None),
+    ("a device without end", link_to("/dev/zero"), None),
 ]
 
 
