@@ -7,6 +7,7 @@ import argparse
 import os
 import select
 import shutil
+import signal
 import stat
 import subprocess
 import sys
@@ -384,6 +385,7 @@ def desk_tells_how_it_ended(tree):
     said = 'echo "%s" >&2'
     ends = [("the self-test failed", said % "desk: the self-test failed", 3, "desk: the self-test failed\n"),
             ("output not written", "cat; " + said % "desk: output not written", 3, "desk: output not written\n"),
+            ("input not read", said % "desk: input not read", 3, "desk: input not read\n"),
             ("without a last newline", "printf %s 'desk: output not written' >&2", 3, "desk: output not written\n"),
             ("a warning of a file called desk", "cat; " + said % "desk: Permission denied", 0, "desk: Permission denied\n"),
             ("a warning that has the words", said % "x/desk: output not written", 0, "x/desk: output not written\n"),
@@ -395,7 +397,54 @@ def desk_tells_how_it_ended(tree):
         tree.run("desk")
         ran = tree.run("desk", given=b"a call\n")
         need_ran(what, ran, status, b"a call\n" if "cat" in text else b"")
-        need(ran.err.removeprefix("Killed\n") == err, "%s: not the line" % what, ran)
+        need(ran.err == err, "%s: not the line" % what, ran)
+
+
+def desk_needs_its_ends(tree):
+    tree.set_program("desk", ":")
+    tree.run("desk")
+    for end, line in (("<&-", "desk: input not read\n"), (">&-", "desk: output not written\n")):
+        ran = tree.run("desk", by=["sh", "-c", 'exec "$0" "$@" ' + end])
+        need_ran("desk %s" % end, ran, 3, b"")
+        need(ran.err == line, "desk %s: not the line" % end, ran)
+    need_ran("no temporary folder", tree.run("desk", settings={"TMPDIR": "/missing"}), 3, b"", lines=1)
+
+
+def begun(tree, **options):
+    """A desk that has replied and warned once."""
+    process = tree.start([tree.root / "desk"], **options)
+    need(next_line(process.stdout, "a reply") == b"replied\n" and next_line(process.stderr, "a warning") == b"warned\n", "not the reply and the warning")
+    return process
+
+
+def desk_ends_by_signal(tree):
+    """A signal to the script, or to all of its group as by Ctrl-C, ends the program too, though its input stays open: then nobody holds its output any more."""
+    tree.set_program("desk", "echo replied; echo warned >&2; exec cat")
+    tree.run("desk")
+    reader, writer = os.pipe()
+    for number in (signal.SIGHUP, signal.SIGINT, signal.SIGQUIT, signal.SIGTERM):
+        for send in (os.kill, os.killpg):
+            what, process = "%s by %s" % (number.name, send.__name__), begun(tree, stdin=reader)
+            send(process.pid, number)
+            try:
+                rest = process.communicate(timeout=standin.PATIENCE)
+            except subprocess.TimeoutExpired:
+                raise Wrong("%s: the program goes on" % what)
+            need(process.returncode == -number, "%s: status %d" % (what, process.returncode))
+            need(rest == (b"", b""), "%s: it printed and said %r" % (what, rest))
+    os.close(reader)
+    os.close(writer)
+    need(not list(tree.room.iterdir()), "a temporary folder is left")
+
+
+def desk_ends_with_its_host(tree):
+    tree.set_program("desk", "echo replied; echo warned >&2; exec cat")
+    tree.run("desk")
+    process = begun(tree)
+    for end in (process.stdin, process.stdout, process.stderr):
+        end.close()
+    need(process.wait(standin.PATIENCE) == 0, "the host's ends closed: status %d" % process.returncode)
+    need(not list(tree.room.iterdir()), "a temporary folder is left")
 
 
 def desk_goes_on_without_warnings(tree):
@@ -410,7 +459,7 @@ def desk_goes_on_without_warnings(tree):
 
 
 def true_desk(tree):
-    """The program itself behind its script: replies, warnings beside the number of an empty file, lost output."""
+    """The program itself behind its script: replies, warnings beside the number of an empty file, ends that fail."""
     tree.set_program("desk", 'exec "$STATE/desk"')
     put(tree.work)
     for name, make in (("a-directory", Path.mkdir), ("a-fifo", os.mkfifo), ("shut", lambda path: (path.touch(), path.chmod(0)))):
@@ -425,6 +474,11 @@ def true_desk(tree):
     need_ran("the desk on W", tree.run("desk", given=calls), 0, b"accepted\nnew\nknown\nvalue 524288\nunclear\ncleared\nrefused 40 0 0\n", lines=0)
     for what, ran in lost(tree, "desk", given=b"clear\n" * 50000):
         need_ran("the desk to %s" % what, ran, 3, lines=1)
+    folder = os.open("/", os.O_RDONLY)
+    ran = tree.run("desk", stdin=folder)
+    os.close(folder)
+    need_ran("the desk from a directory", ran, 3, b"")
+    need(ran.err == "desk: input not read\n", "the desk from a directory: not the line", ran)
 
 
 # The tests' own script, and what a machine lacks.
@@ -498,7 +552,7 @@ def show_needs_no_compiler(tree):
 CHECKS = [shows_examples, refuses_wrong_use, refuses_shut_folder, checks_folder_named, found_through_links, tells_use_and_version, tells_commit, notices_lost_output,
           notices_failed_showbounds, warns_of_unreadable, shows_without_warnings, builds_with_few_lines, builds_what_changed, builds_what_is_lost,
           builds_again_after_edit_beside, tells_failed_build, tells_shut_target, builds_once_for_two, desk_hands_through, desk_answers_at_once, desk_tells_how_it_ended,
-          desk_goes_on_without_warnings, test_tells_what_failed, test_installs_what_is_missing, show_needs_no_compiler]
+          desk_needs_its_ends, desk_ends_by_signal, desk_ends_with_its_host, desk_goes_on_without_warnings, test_tells_what_failed, test_installs_what_is_missing, show_needs_no_compiler]
 
 
 def first_fault(scripts, programs):

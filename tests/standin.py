@@ -12,7 +12,7 @@ from typing import NamedTuple
 SCRIPTS = ("show", "desk", "test", "common.sh")
 PATIENCE = 20  # seconds until a script counts as hanging
 NOBODY = 65534
-BASE = "sh awk sed tr find flock tee cat rm mkdir mv cp mktemp readlink dirname true env git chmod cksum grep sleep seq".split()
+BASE = "sh awk sed tr find flock tee cat rm mkdir mv cp mktemp mkfifo readlink dirname true env git chmod cksum grep sleep seq".split()
 CRATES = "# who needs whom\nlow:\nhigh: low io\nshowbounds: high # and not: other\ndesk: low\nother:\n"
 
 RT = r"""#!/bin/sh
