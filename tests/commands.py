@@ -417,14 +417,23 @@ def begun(tree, **options):
     return process
 
 
+ENDING = (signal.SIGHUP, signal.SIGINT, signal.SIGQUIT, signal.SIGTERM)
+
+
+def hear_signals():
+    """A shell cannot trap what was ignored when it started, as SIGINT is in what a script runs beside itself."""
+    for number in ENDING:
+        signal.signal(number, signal.SIG_DFL)
+
+
 def desk_ends_by_signal(tree):
     """A signal to the script, or to all of its group as by Ctrl-C, ends the program too, though its input stays open: then nobody holds its output any more."""
     tree.set_program("desk", "echo replied; echo warned >&2; exec cat")
     tree.run("desk")
     reader, writer = os.pipe()
-    for number in (signal.SIGHUP, signal.SIGINT, signal.SIGQUIT, signal.SIGTERM):
+    for number in ENDING:
         for send in (os.kill, os.killpg):
-            what, process = "%s by %s" % (number.name, send.__name__), begun(tree, stdin=reader)
+            what, process = "%s by %s" % (number.name, send.__name__), begun(tree, stdin=reader, preexec_fn=hear_signals)
             send(process.pid, number)
             try:
                 rest = process.communicate(timeout=standin.PATIENCE)
