@@ -34,7 +34,7 @@ WRONG = [
     ("desk", 'true 2>/dev/null 3>&1 || give_up "output not written"', ""),
     ("desk", 'wait "$!" 2>/dev/null', 'wait "$!"'),
     ("desk", 'wait "$watcher" || exit 3', 'wait "$watcher"'),
-    ("desk", "&& watch; }", "&& sort | watch; }"),
+    ("desk", "&& watch; }", "&& sed '' | watch; }"),
     ("desk", "{ exec <&6 4<&- 6<&- 7>&- && watch; } &", "watch <&6 4<&- 6<&- 7>&- &"),
     ("desk", '/target/bin/desk" <&4 2>&7', '/target/bin/desk" <&4'),
     ("desk", '/target/bin/desk" <&4 2>&7', '/target/bin/desk" 2>&7'),
