@@ -1,2 +1,3 @@
 -- Replies: a refusal's line from its parts, and lines byte by byte.
 pub mod Replies
+pub mod Edges
