@@ -1,4 +1,5 @@
--- Scripts: the code's responses, pieces of an input, and the theorem that a desk prints what a script does.
+-- Scripts: the code's responses, pieces of an input, the theorem that a desk prints what a script does, and scripts byte by byte.
 pub mod Responses
 pub mod Pieces
 pub mod Printing
+pub mod Edges

@@ -1,0 +1,37 @@
+-- The scripts print what the tables have, computed.
+use Prim.Native.Nat.{ℕ}
+use mathlib.Core.List.{List, []}
+use mathlib.Core.Path.{refl}
+use Rattle.walks.specs.Lists.{listTo, each}
+use Rattle.outcome.specs.Tests.{first}
+use Rattle.words.specs.Words.{wordAt}
+use Rattle.walks.specs.Sums.{sign, sum, sumTo, leastTo, allTo, greatestTo}
+use Rattle.ppda.specs.Rules.{fits, overRow}
+use Rattle.ppda.specs.Equations.{f, meanSide}
+use Rattle.ppda.specs.Live.{mark, isLive, alive}
+use Rattle.ppda.specs.Margin.{share, shareAt, margin}
+use Rattle.text.specs.Decimal.{digitsTo, decimal}
+use Rattle.text.specs.Reading.{pieces, numberAfter, numberIn}
+use Rattle.model.specs.Records.{recordsOf, field, weight, statesOf, symbolsOf}
+use Rattle.model.specs.Rules.{ruleOf, rulesOf, rowOf, rowSum}
+use Rattle.wellformed.specs.Verdict.{wholeRecords, rangeAt, unusedAt, weightAt, ascends, recordTests, rowTests, rowsTests, modelTests, modelVerdict}
+use Rattle.delivery.specs.Records.{byteOf, valueAt}
+use Rattle.delivery.specs.Shapes.{meansFrom, recordsIn, longAs, lowersOrMeans, shapeOf}
+use Rattle.delivery.specs.Numbers.{uppersOf, lowersOf, meansOf}
+use Rattle.layout.specs.Layout as layout
+use Rattle.delivery.specs.Records.{isDue, inRange}
+use Rattle.layout.specs.Layout.{upperRecords, lowerRecords, meanRecords, layoutTests}
+use Rattle.walks.specs.Order.{eachEntry, eachRow}
+use Rattle.inequalities.specs.Inequalities.{deadTest, upperTest, belowTest, lowerTest, meanTest, deadTests, upperTests, belowTests, lowerTests, meanTests}
+use Rattle.verdict.specs.Marks.{liveMark}
+use Rattle.verdict.specs.Verdict as verdict
+use Rattle.verdict.specs.Verdict.{numberTests, shapedTests, deliveryTests}
+use Rattle.certificate.specs.Margin.{marginOf}
+use Rattle.history.specs.Plain.{lastModel, lastDelivery, sameUppers, plainReply}
+use Rattle.said.specs.Said.{same, every, isPlain, isSilent, isNumber, isName, byWord, saidBy}
+use Rattle.script.specs.Script.{printedAfter}
+use Rattle.script.specs.Edges.{Printed, wScript, unreadScript, oddScript}
+
+pub scripts-printed : Printed [] × Printed wScript × ((f : List ℕ) → Printed (unreadScript f)) × Printed oddScript
+unfolding printedAfter saidBy byWord isPlain isSilent isNumber isName every same pieces numberAfter numberIn decimal digitsTo first each wordAt sign sum sumTo leastTo fits overRow f meanSide mark isLive alive share shareAt margin recordsOf field weight greatestTo statesOf symbolsOf ruleOf listTo rulesOf rowOf rowSum wholeRecords rangeAt unusedAt weightAt ascends recordTests rowTests rowsTests modelTests modelVerdict byteOf valueAt meansFrom recordsIn longAs lowersOrMeans shapeOf uppersOf lowersOf meansOf eachEntry eachRow isDue inRange layout.recordTests deadTest upperTest belowTest lowerTest meanTest upperRecords lowerRecords meanRecords deadTests upperTests belowTests lowerTests meanTests layoutTests numberTests shapedTests deliveryTests verdict.verdict marginOf liveMark allTo lastModel lastDelivery sameUppers plainReply
+scripts-printed = (refl, refl, λ f. refl, refl)
