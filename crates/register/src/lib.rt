@@ -159,24 +159,24 @@ impl Register {
     pub fn upper(self, p: usize, z: usize, q: usize) -> Answer
         ensures { λ r. ⌜ r ≡ upperIn self p z q ⌝ }
     {
-        let uppers = self.numbers.uppers;
-        questions::upper(self.shown(), &uppers, p, z, q)
+        let list = self.numbers.uppers;
+        questions::upper(self.shown(), &list, p, z, q)
     }
 
     // The lower of an entry.
     pub fn lower(self, p: usize, z: usize, q: usize) -> Answer
         ensures { λ r. ⌜ r ≡ lowerIn self p z q ⌝ }
     {
-        let lowers = self.numbers.lowers;
-        questions::lower(self.shown(), &lowers, p, z, q)
+        let list = self.numbers.lowers;
+        questions::lower(self.shown(), &list, p, z, q)
     }
 
     // The mean steps of a row.
     pub fn mean_steps(self, p: usize, z: usize) -> Answer
         ensures { λ r. ⌜ r ≡ meanIn self p z ⌝ }
     {
-        let means = self.numbers.means;
-        questions::mean_steps(self.shown(), &means, p, z)
+        let list = self.numbers.means;
+        questions::mean_steps(self.shown(), &list, p, z)
     }
 
     // The margin.
@@ -190,8 +190,8 @@ impl Register {
     pub fn live(self, p: usize, z: usize, q: usize) -> Answer
         ensures { λ r. ⌜ r ≡ liveIn self p z q ⌝ }
     {
-        let marks = self.model.live;
-        questions::live(self.shown(), &marks, p, z, q)
+        let list = self.model.live;
+        questions::live(self.shown(), &list, p, z, q)
     }
 
     // All that questions are answered from.

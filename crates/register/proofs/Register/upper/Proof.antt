@@ -1,5 +1,5 @@
 -- `upper`: the question on what the register shows, and its list of numbers.
-use mathlib.Core.Path.{ap, _∙_}
+use mathlib.Core.Path.{_≡_, ap, _∙_}
 use Rattle.questions.specs.Questions.{upperAnswer}
 use Rattle.register.specs.Questions.{upperIn}
 use borrow.Author.Needs.{needs}
@@ -16,7 +16,9 @@ returns : tie.Need-returns
 unfolding upperIn
 returns c =
     let args = c .before .before .before .before .args in
-    c .upper .ensures ∙ ap (λ h. upperAnswer h (args .self .numbers .uppers) (args .p) (args .z) (args .q)) (c .before .before .shown .ensures)
+    let shown = c .before .before .shown in
+    let asked : c .upper .result ≡ upperAnswer (shown .result) (args .self .numbers .uppers) (args .p) (args .z) (args .q) = c .upper .ensures in
+    asked ∙ ap (λ h. upperAnswer h (args .self .numbers .uppers) (args .p) (args .z) (args .q)) (shown .ensures)
 
 pub upper-spec : {M : Type 1} → statement M
 upper-spec = tie.close (tie.spec shown-requires upper-requires returns)
