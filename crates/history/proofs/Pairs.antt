@@ -122,7 +122,7 @@ model-of-pair b none = refl
 model-of-pair b (some d) = refl
 
 module _ (b : List ℕ) (y : Option (List ℕ)) (right : Right (some b) y) where
-  model-held : holdsModel (holding (some b) y .model .length) ≡ true
+  pub model-held : holdsModel (holding (some b) y .model .length) ≡ true
   unfolding modelHeld
   model-held = rw (model-of-pair b y) (held-length b (model-right b y right))
 

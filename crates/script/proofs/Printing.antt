@@ -35,7 +35,7 @@ history-by cs nothing = refl
 history-by cs unclear = refl
 history-by cs (call c) = rw (as-plain-pair cs c)
 
-reply-by : (cs : List Call) (a : Asked) → replyBy (registerAfter cs) a ≡ textBy (history cs) a
+pub reply-by : (cs : List Call) (a : Asked) → replyBy (registerAfter cs) a ≡ textBy (history cs) a
 reply-by cs nothing = refl
 reply-by cs unclear = refl
 reply-by cs (call c) = ap replyLine (as-plain-pair cs c)
