@@ -5,7 +5,7 @@ use mathlib.Core.List.{List, [], _∷_, _++_, map}
 use mathlib.Core.Path.{_≡_}
 use Rattle.text.specs.Reading.{pieces}
 use Rattle.model.specs.W.{wFile}
-use Rattle.certificate.specs.Edges.{wDelivery}
+use Rattle.certificate.specs.Edges.{oneRule, wDelivery}
 use Rattle.script.specs.Script.{Line, printedAfter}
 
 -- A line with its end (10), the bytes of the file that it names (none, where it names no file), and what is printed for it.
@@ -38,6 +38,17 @@ withFiles (l ∷ ls) (f ∷ fs) = record { bytes = l; file = f } ∷ withFiles l
 -- What is printed for the lines of the input is as the rows have it.
 abbrev pub Printed : List Row → Type 0
 Printed rs = printedAfter [] (withFiles (pieces 10 (inputOf rs)) (filesOf rs)) ≡ repliesOf rs
+
+-- A model, a line that says no call, which changes nothing, and a question.
+abbrev pub shortScript : List Row
+shortScript =
+    -- model a: accepted
+    row (109 ∷ 111 ∷ 100 ∷ 101 ∷ 108 ∷ 32 ∷ 97 ∷ 10 ∷ []) (oneRule 65536) (97 ∷ 99 ∷ 99 ∷ 101 ∷ 112 ∷ 116 ∷ 101 ∷ 100 ∷ 10 ∷ [])
+    -- clear a: unclear
+    ∷ row (99 ∷ 108 ∷ 101 ∷ 97 ∷ 114 ∷ 32 ∷ 97 ∷ 10 ∷ []) [] (117 ∷ 110 ∷ 99 ∷ 108 ∷ 101 ∷ 97 ∷ 114 ∷ 10 ∷ [])
+    -- live 0 0 0: value 1
+    ∷ row (108 ∷ 105 ∷ 118 ∷ 101 ∷ 32 ∷ 48 ∷ 32 ∷ 48 ∷ 32 ∷ 48 ∷ 10 ∷ []) [] (118 ∷ 97 ∷ 108 ∷ 117 ∷ 101 ∷ 32 ∷ 49 ∷ 10 ∷ [])
+    ∷ []
 
 -- W: a filing and its questions; a delivery filed twice is known; a refused filing, an unclear line, a comment and an empty line change nothing; another delivery
 -- is new, and its numbers are shown from then on; clearing. The last line has its end.
