@@ -1,0 +1,27 @@
+-- `change_reads`: a model's file is read where none is held, a delivery's where one is, and a clearing has none.
+use mathlib.Core.Path.{refl}
+use Rattle.outcome.proofs.Tests.{by-cases}
+use borrow.Author.Needs.{needs}
+use Rattle.script.proofs.change_reads.Statement.{statement}
+use Rattle.script.proofs.change_reads.Tie as tie
+
+enum-told : tie.Need-enum-told
+enum-told c = search needs
+
+enum-told-2 : tie.Need-enum-told-2
+enum-told-2 c = search needs
+
+enum-told-3 : tie.Need-enum-told-3
+enum-told-3 c = search needs
+
+returns : tie.Need-returns
+returns c = rw (c .enum-told .given .1) refl
+
+returns-2 : tie.Need-returns-2
+returns-2 c = rw (c .enum-told2 .given .1) (by-cases (c .before .before .args .held) (λ held. rw held refl) (λ held. rw held refl))
+
+returns-3 : tie.Need-returns-3
+returns-3 c = rw (c .enum-told3 .given .1) (by-cases (c .before .before .args .held) (λ held. rw held refl) (λ held. rw held refl))
+
+pub change-reads-spec : {M : Type 1} → statement M
+change-reads-spec = tie.close (tie.spec enum-told enum-told-2 enum-told-3 returns returns-2 returns-3)
