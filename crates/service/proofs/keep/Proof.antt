@@ -1,6 +1,8 @@
 -- `keep`: by whether there is a place for the byte.
-use borrow.Author.Tests.{lt-ltb, le-ltb}
+use native.Mathlib.Omega.{arith}
 use mathlib.Core.Path.{refl}
+use Rattle.script.specs.Serving.{keptBytes}
+use borrow.Author.Tests.{lt-ltb, le-ltb}
 use borrow.Author.Needs.{needs}
 use Rattle.service.proofs.keep.Statement.{statement}
 use Rattle.service.proofs.keep.Tie as tie
@@ -12,10 +14,10 @@ add-result : tie.Need-add-result
 add-result c = search needs
 
 returns : tie.Need-returns
-returns c = rw (lt-ltb _ _ (c .if1 .taken)) (refl, refl)
+returns c = rw (lt-ltb (c .before .args .kept) keptBytes (omega (arith, c .if1 .taken))) (refl, refl)
 
 returns-2 : tie.Need-returns-2
-returns-2 c = rw (le-ltb _ _ (c .if1 .left)) (refl, refl)
+returns-2 c = rw (le-ltb (c .before .args .kept) keptBytes (omega (arith, c .if1 .left))) (refl, refl)
 
 pub keep-spec : {M : Type 1} → statement M
 keep-spec = tie.close (tie.spec element-write-line add-result returns returns-2)
