@@ -1,12 +1,14 @@
-// Loaded beside a program (LD_PRELOAD). Until the program opens a file, it looks through the stack for model W's forty bytes each time that the
-// program copies or fills memory, and writes "W" to standard error when it first finds them; each file opened gives a line "open NAME". With
-// CHANGE_W set it changes a weight in each W that it finds, so that no register accepts it.
+// Loaded beside a program (LD_PRELOAD). Until the program opens a file or reads standard input, it looks through the stack for model W's forty bytes
+// each time that the program copies or fills memory, and writes "W" to standard error when it first finds them; each file opened gives a line
+// "open NAME", and the first read of standard input a line "read". With CHANGE_W set it changes a weight in each W that it finds, so that no register
+// accepts it.
 #define _GNU_SOURCE
 #include <dlfcn.h>
 #include <stdbool.h>
 #include <stdio.h>
 #include <stdlib.h>
 #include <string.h>
+#include <unistd.h>
 
 enum { W_BYTES = 40, WEIGHT_BYTE = 6 };
 
@@ -19,16 +21,18 @@ static const unsigned char W[W_BYTES] = {
 };
 
 static char *stack_end;
-static bool watching, found, change;
+static bool watching, found, change, has_read;
 static void *(*real_memcpy)(void *, const void *, size_t);
 static void *(*real_memset)(void *, int, size_t);
 static int (*real_open)(const char *, int, ...);
+static ssize_t (*real_read)(int, void *, size_t);
 
 __attribute__((constructor)) static void start(void)
 {
     real_memcpy = dlsym(RTLD_NEXT, "memcpy");
     real_memset = dlsym(RTLD_NEXT, "memset");
     real_open = dlsym(RTLD_NEXT, "open");
+    real_read = dlsym(RTLD_NEXT, "read");
     FILE *maps = fopen("/proc/self/maps", "r");
     char line[512];
     while (maps && fgets(line, sizeof line, maps)) {
@@ -75,4 +79,15 @@ int open(const char *name, int flags, ...)
     watching = false;
     fprintf(stderr, "open %s\n", name);
     return real_open(name, flags, 0);
+}
+
+ssize_t read(int from, void *to, size_t count)
+{
+    if (from == STDIN_FILENO && !has_read) {
+        look();
+        watching = false;
+        has_read = true;
+        fputs("read\n", stderr);
+    }
+    return real_read(from, to, count);
 }
