@@ -16,7 +16,7 @@ use Rattle.history.proofs.Mission.{mission}
 use Rattle.said.specs.Said.{saidBy}
 use Rattle.said.proofs.Meaning.{kept-says}
 use Rattle.replies.specs.Replies.{replyLine}
-use Rattle.script.specs.Script.{Line, Asked, nothing, unclear, call, askedBy, asks, eventsBy, textBy, printedAfter, callsBy, callsAfter, Prints}
+use Rattle.script.specs.Script.{LineRead, Asked, nothing, unclear, call, askedBy, asks, eventsBy, textBy, printedAfter, callsBy, callsAfter, Prints}
 use Rattle.script.specs.Serving.{keptBytes, State, atStart, Byte, registerBy, replyBy, longer, lineEnded, byteTaken, printedBy, afterBytes, printedFor, Serves, ServesPieces, no-piece, one-piece}
 use Rattle.script.proofs.Pieces.{piece-longer, piece-ended, pieces-closed, last-off}
 
@@ -42,22 +42,22 @@ reply-by cs (call c) = ap replyLine (as-plain-pair cs c)
 
 -- ---- lines in their order
 
-eventsAfter : List Event → List Line → List Event
+eventsAfter : List Event → List LineRead → List Event
 eventsAfter es [] = es
 eventsAfter es (l ∷ ls) = eventsAfter (eventsBy es (asks l)) ls
 
-history-after : (cs : List Call) (ls : List Line) → history (callsAfter cs ls) ≡ eventsAfter (history cs) ls
+history-after : (cs : List Call) (ls : List LineRead) → history (callsAfter cs ls) ≡ eventsAfter (history cs) ls
 unfolding callsAfter eventsAfter
 history-after cs [] = refl
 history-after cs (l ∷ ls) = history-after (callsBy cs (asks l)) ls ∙ ap (λ es. eventsAfter es ls) (history-by cs (asks l))
 
 -- One line more, at the end.
-calls-more : (cs : List Call) (ls : List Line) (l : Line) → callsAfter cs (ls ++ (l ∷ [])) ≡ callsBy (callsAfter cs ls) (asks l)
+calls-more : (cs : List Call) (ls : List LineRead) (l : LineRead) → callsAfter cs (ls ++ (l ∷ [])) ≡ callsBy (callsAfter cs ls) (asks l)
 unfolding callsAfter
 calls-more cs [] l = refl
 calls-more cs (k ∷ ls) l = calls-more (callsBy cs (asks k)) ls l
 
-printed-more : (es : List Event) (ls : List Line) (l : Line)
+printed-more : (es : List Event) (ls : List LineRead) (l : LineRead)
     → printedAfter es (ls ++ (l ∷ [])) ≡ printedAfter es ls ++ textBy (eventsAfter es ls) (asks l)
 unfolding printedAfter eventsAfter
 printed-more es [] l = append-nil (textBy es (asks l))
@@ -65,7 +65,7 @@ printed-more es (k ∷ ls) l =
     ap (λ t. textBy es (asks k) ++ t) (printed-more (eventsBy es (asks k)) ls l)
     ∙ sym (append-assoc (textBy es (asks k)) (printedAfter (eventsBy es (asks k)) ls) (textBy (eventsAfter (eventsBy es (asks k)) ls) (asks l)))
 
-lines-more : (ls : List Line) (l : Line) → map (λ l. l .bytes) (ls ++ (l ∷ [])) ≡ map (λ l. l .bytes) ls ++ (l .bytes ∷ [])
+lines-more : (ls : List LineRead) (l : LineRead) → map (λ l. l .bytes) (ls ++ (l ∷ [])) ≡ map (λ l. l .bytes) ls ++ (l .bytes ∷ [])
 lines-more [] l = refl
 lines-more (k ∷ ls) l = ap (λ t. k .bytes ∷ t) (lines-more ls l)
 
@@ -73,7 +73,7 @@ lines-more (k ∷ ls) l = ap (λ t. k .bytes ∷ t) (lines-more ls l)
 
 -- The state of a desk after the input, and what it has printed: lines that have ended, and the rest, of which the first bytes are kept.
 record Follows (input : List ℕ) (s : State) (text : List ℕ) : Type 0 where
-  lines : List Line
+  lines : List LineRead
   rest : List ℕ
   so-far : pieces 10 input ≡ map (λ l. l .bytes) lines ++ (rest ∷ [])
   line-kept : s .line ≡ take keptBytes rest
@@ -101,7 +101,7 @@ module _ {input : List ℕ} {s : State} {text : List ℕ} (so : Follows input s 
   }
 
   module _ (b : ℕ) (f : List ℕ) (is : eqb b 10 ≡ true) where
-    ended-line : Line
+    ended-line : LineRead
     ended-line = record { bytes = so .rest; file = f }
 
     asked : askedBy (saidBy (s .line)) f ≡ asks ended-line
@@ -204,14 +204,14 @@ pub pieces-printed : (ps : List (List ℕ)) {t : State} {text : List ℕ} → Se
 pieces-printed ps {t} {text} served = desk-prints (flatten ps) (subst (λ l. Serves atStart l t text) (flatten-last ps (10 ∷ [])) (pieces-as-one served))
 
 -- The reply to a line that says a call is that of a register after the calls that the lines before it say; of these the mission holds.
-printed-lines : (es : List Event) (ls ms : List Line) → printedAfter es (ls ++ ms) ≡ printedAfter es ls ++ printedAfter (eventsAfter es ls) ms
+printed-lines : (es : List Event) (ls ms : List LineRead) → printedAfter es (ls ++ ms) ≡ printedAfter es ls ++ printedAfter (eventsAfter es ls) ms
 unfolding printedAfter eventsAfter
 printed-lines es [] ms = refl
 printed-lines es (k ∷ ls) ms =
     ap (λ t. textBy es (asks k) ++ t) (printed-lines (eventsBy es (asks k)) ls ms)
     ∙ sym (append-assoc (textBy es (asks k)) (printedAfter (eventsBy es (asks k)) ls) (printedAfter (eventsAfter (eventsBy es (asks k)) ls) ms))
 
-pub reply-in-its-place : (ls : List Line) (l : Line) (c : Call) (ms : List Line) → asks l ≡ call c
+pub reply-in-its-place : (ls : List LineRead) (l : LineRead) (c : Call) (ms : List LineRead) → asks l ≡ call c
     → printedAfter [] (ls ++ (l ∷ ms))
     ≡ printedAfter [] ls ++ (replyLine (replyTo (callsAfter [] ls) c) ++ printedAfter (history (c ∷ callsAfter [] ls)) ms)
 unfolding printedAfter history
@@ -221,5 +221,5 @@ reply-in-its-place ls l c ms is =
     ∙ rw (is, ← as-plain-pair (callsAfter [] ls) c)
 
 -- The mission holds of the calls that the lines of any script say.
-pub script-mission : (ls : List Line) → Mission (callsAfter [] ls)
+pub script-mission : (ls : List LineRead) → Mission (callsAfter [] ls)
 script-mission ls = mission (callsAfter [] ls)

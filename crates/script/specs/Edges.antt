@@ -6,7 +6,7 @@ use mathlib.Core.Path.{_≡_}
 use Rattle.text.specs.Reading.{pieces}
 use Rattle.model.specs.W.{wFile}
 use Rattle.certificate.specs.Edges.{oneRule, wDelivery}
-use Rattle.script.specs.Script.{Line, printedAfter}
+use Rattle.script.specs.Script.{LineRead, printedAfter}
 
 -- A line with its end (10), the bytes of the file that it names (none, where it names no file), and what is printed for it.
 pub record Row : Type 0 where
@@ -30,7 +30,7 @@ repliesOf [] = []
 repliesOf (r ∷ rs) = r .reply ++ repliesOf rs
 
 -- Lines, each with its file. A line for which there is none left, as the empty one after the last line end, names an empty one.
-abbrev pub withFiles : List (List ℕ) → List (List ℕ) → List Line
+abbrev pub withFiles : List (List ℕ) → List (List ℕ) → List LineRead
 withFiles [] fs = []
 withFiles (l ∷ ls) [] = record { bytes = l; file = [] } ∷ withFiles ls []
 withFiles (l ∷ ls) (f ∷ fs) = record { bytes = l; file = f } ∷ withFiles ls fs

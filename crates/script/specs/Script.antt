@@ -15,7 +15,7 @@ use Rattle.said.specs.Said.{saidBy}
 use Rattle.replies.specs.Replies.{replyLine, unclearLine}
 
 -- A line of a script, and the bytes that the system hands out for the file that it names: any, where it names none or none is read.
-pub record Line : Type 0 where
+pub record LineRead : Type 0 where
   pub bytes : List ℕ
   pub file : List ℕ
 
@@ -37,7 +37,7 @@ askedBy Says.Unclear f = unclear
 askedBy (Says.Change c) f = call (changeCall c f)
 askedBy (Says.Question a) f = call (questionCall a)
 
-abbrev pub asks : Line → Asked
+abbrev pub asks : LineRead → Asked
 asks l = askedBy (saidBy (l .bytes)) (l .file)
 
 -- Whether a file is read, by whether a model is held: the register's own reasons, 41 and 40, come before any file is read.
@@ -67,7 +67,7 @@ textBy es unclear = unclearLine
 textBy es (call c) = replyLine (plainReply (pairOf es) c)
 
 -- What is printed for lines in their order.
-unfoldable pub printedAfter : List Event → List Line → List ℕ
+unfoldable pub printedAfter : List Event → List LineRead → List ℕ
 printedAfter es [] = []
 printedAfter es (l ∷ ls) = textBy es (asks l) ++ printedAfter (eventsBy es (asks l)) ls
 
@@ -77,13 +77,13 @@ callsBy cs nothing = cs
 callsBy cs unclear = cs
 callsBy cs (call c) = c ∷ cs
 
-unfoldable pub callsAfter : List Call → List Line → List Call
+unfoldable pub callsAfter : List Call → List LineRead → List Call
 callsAfter cs [] = cs
 callsAfter cs (l ∷ ls) = callsAfter (callsBy cs (asks l)) ls
 
 -- The text is what a desk prints of an input, with some bytes for each file that it reads. The lines of the input are what stands between line
 -- ends (10), and after the last of them: where the input ends with a line end, that is an empty line, which asks nothing.
 pub record Prints (input text : List ℕ) : Type 0 where
-  pub lines : List Line
+  pub lines : List LineRead
   pub of-input : map (λ l. l .bytes) lines ≡ pieces 10 input
   pub printed : text ≡ printedAfter [] lines
