@@ -38,7 +38,7 @@ WRONG = [
     ("desk", "{ exec <&6 4<&- 6<&- 7>&- && watch; } &", "watch <&6 4<&- 6<&- 7>&- &"),
     ("desk", '/target/bin/desk" <&4 2>&7', '/target/bin/desk" <&4'),
     ("desk", '/target/bin/desk" <&4 2>&7', '/target/bin/desk" 2>&7'),
-    ("desk", '    kill "$!" 2>/dev/null\n', ""),
+    ("desk", ' || kill -s KILL "$!" 2>/dev/null', ""),
     ("desk", '    kill -s "$1" $$\n', "    exit 0\n"),
     ("desk", "in HUP INT QUIT TERM;", "in INT QUIT TERM;"),
     ("desk", "in HUP INT QUIT TERM;", "in HUP QUIT TERM;"),
