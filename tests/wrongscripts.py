@@ -45,7 +45,7 @@ WRONG = [
     ("desk", "in HUP INT QUIT TERM;", "in HUP INT TERM;"),
     ("desk", "in HUP INT QUIT TERM;", "in HUP INT QUIT;"),
     ("desk", '    rm -rf "$room"\n', ""),
-    ("desk", ' || give_up "no temporary folder can be made"', ""),
+    ("desk", ' || give_up "no temporary folder can be made"', " || exit 1"),
     ("desk", '    wrong_use "calls', '    : "calls'),
     ("test", "rt fmt --check || exit 1", "rt fmt --check"),
     ("test", "if ! alone prove; then", "alone prove\nif false; then"),
