@@ -1,4 +1,4 @@
-"""Shows why the prover refuses the wrong programs that document 01 names: python3 tests/mustfail.py [WORD..]
+"""Shows why the prover refuses the wrong programs that document 01 names, and wrong desks: python3 tests/mustfail.py [WORD..]
 
 For each row of the table below it tries the must-fail edit and its harmless twin, which writes something of the same meaning into
 the same lines, on a copy of the crates. It prints the first error for the edit and whether the twin is accepted, as it must be:
@@ -25,7 +25,7 @@ class Row(NamedTuple):
     twin: tuple   # a new line for each that the edit has, in their order
 
 
-# Registers that have to break the contracts (document 01, "Conditions of acceptance", 3); the mistakes of method; live marks, and reasons.
+# Registers that have to break the contracts (document 01, "Conditions of acceptance", 3); the mistakes of method; live marks, and reasons; desks.
 TABLE = [
     Row("takes no model", "filing/takes_no_model", ("let found = wellformed::check(file); found",)),
     Row("takes no model", "wellformed/takes_no_model", ("    (0 < n) & ((n % RECORD_BYTES == 0) & (n <= 10240))",)),
@@ -86,6 +86,20 @@ TABLE = [
         ("if !(inside) & true {", "refused((Reason::NotOfModel))", "if !block | false {", "refused(Reason::NoBlock)")),
     Row("names one reason of a record for another", "wellformed/two_reasons_swapped",
         ("refused((Reason::OutOfRange), i)", "refused((Reason::UnusedNotZero), i)")),
+
+    Row("the desk replies to the call before, by definition", "script/reply_to_the_call_before",
+        ("use mathlib.Core.List.{List, [], _∷_, _++_, map, headD}", "meanSteps, margin, live, cleared}",
+         "textBy es (call c) = replyLine (plainReply (pairOf ([] ++ es)) c)", "use mathlib.Core.List.{List, [], headD}",
+         "unfolding printedAfter headD saidBy")),
+    Row("the desk answers a question from what was held before the filing", "service/reply_from_before_the_call",
+        ("            register = (after);", "let seen = (register).view();")),
+    Row("the desk clears at an unclear line", "said/unclear_line_clears", ("return (Said::Unclear);",)),
+    Row("the desk clears at an unclear line, by definition", "script/unclear_line_clears", ("eventsBy es unclear = [] ++ es",)),
+    Row("the desk writes known for new", "replies/known_written_for_new", ('Mark::New => put(out, (at), b"new\\n"),',)),
+    Row("the desk reads a number as its last digit", "said/number_is_its_last_digit", ("10 * n + (digit - 48) as usize",)),
+    Row("the desk reads a file before the register's own reasons", "script/file_read_before_own_reasons", ("Said::Model => !held & true,",)),
+    Row("the desk prints the replies in another order, by definition", "script/replies_in_another_order",
+        ("printedAfter es (l ∷ ls) = textBy es (asks l) ++ ([] ++ printedAfter (eventsBy es (asks l)) ls)",)),
 ]
 
 

@@ -8,7 +8,7 @@ use Rattle.model.specs.W.{wFile}
 use Rattle.certificate.specs.Edges.{oneRule, wDelivery}
 use Rattle.script.specs.Script.{LineRead, printedAfter}
 
--- A line with its end (10), the bytes of the file that it names (none, where it names no file), and what is printed for it.
+-- A line with its end (10), the bytes of the file that it names (any, where it names none), and what is printed for it.
 pub record Row : Type 0 where
   pub line : List ℕ
   pub file : List ℕ
