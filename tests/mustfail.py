@@ -88,9 +88,8 @@ TABLE = [
         ("refused((Reason::OutOfRange), i)", "refused((Reason::UnusedNotZero), i)")),
 
     Row("the desk replies to the call before, by definition", "script/reply_to_the_call_before",
-        ("use mathlib.Core.List.{List, [], _∷_, _++_, map, headD}", "meanSteps, margin, live, cleared}",
-         "textBy es (call c) = replyLine (plainReply (pairOf ([] ++ es)) c)", "use mathlib.Core.List.{List, [], headD}",
-         "unfolding printedAfter headD saidBy")),
+        ("use mathlib.Core.List.{List, [], _∷_, _++_, map, headD}", "{Call, clear, fileModel, fileDelivery, cleared}",
+         "textBy es (call c) = replyLine (plainReply (pairOf ([] ++ es)) c)")),
     Row("the desk answers a question from what was held before the filing", "service/reply_from_before_the_call",
         ("            register = (after);", "let seen = (register).view();")),
     Row("the desk clears at an unclear line", "said/unclear_line_clears", ("return (Said::Unclear);",)),
