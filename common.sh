@@ -135,10 +135,10 @@ a_line_a_crate() {
 # Proves and builds a program.
 build() { # NAME WHY
     log=target/$1.log
-    say "$2: proving and building it, about 3 minutes on two processors from nothing, less where little changed; $log has all that rt says"
     if ! mkdir -p "$root/target" 2>/dev/null || [ ! -w "$root/target" ]; then
-        give_up "$1 could not be built: this user may not write to $root/target"
+        give_up "$2, and could not be built: this user may not write to $root/target"
     fi
+    say "$2: proving and building it, about 3 minutes on two processors from nothing, less where little changed; $log has all that rt says"
     rt version >"$root/target/$1.begun"
     forget_lost "$1"
     status=$(cd "$root" && { { rt check "$1" </dev/null 2>&1; echo $? >&4; } | tee "$log" | a_line_a_crate; } 4>&1)

@@ -7,6 +7,7 @@ use Rattle.script.specs.Serving.{Serves}
 use Rattle.service.specs.declared.Desk.{Desk}
 use Rattle.service.specs.declared.Served.{Served}
 use Rattle.service.specs.Service.{stateOf}
+use Rattle.desk.specs.declared.Turn.{Turn}
 
 -- The most bytes that are read at once.
 abbrev pub pieceBytes : ℕ
@@ -20,3 +21,12 @@ roomBytes = pieceBytes * replyRoom
 pub record TookAll (d : Desk) (piece out : List ℕ) (r : Served) : Type 0 where
   pub fits : r .printed ≤ length out
   pub serves : Serves (stateOf d) piece (stateOf (r .desk)) (take (r .printed) out)
+
+-- The desk after a turn is the one before it, served the piece; and served some piece, where the system hands it out.
+pub record Replied (d : Desk) (piece : List ℕ) (t : Turn) : Type 0 where
+  pub text : List ℕ
+  pub serves : Serves (stateOf d) piece (stateOf (t .desk)) text
+
+pub record RepliedSome (d : Desk) (t : Turn) : Type 0 where
+  pub piece : List ℕ
+  pub replied : Replied d piece t

@@ -9,7 +9,7 @@ ghost use mathlib.Core.Path.{_≡_};
 ghost use Prim.Native.Nat.{_*_, _≤_};
 ghost use lib.ListN.{length};
 ghost use Rattle.replies.specs.Contracts.{replyRoom};
-ghost use Rattle.desk.specs.Contracts.{pieceBytes, roomBytes, TookAll};
+ghost use Rattle.desk.specs.Contracts.{roomBytes, TookAll, Replied, RepliedSome};
 
 // The most bytes that are read at once, and room for the replies to as many lines.
 const PIECE: usize = 16_384;
@@ -55,6 +55,7 @@ fn serve_all(desk: Desk, piece: &[u8], out: &mut [u8]) -> Served
 // Serves a piece and writes the replies.
 fn reply_to(desk: Desk, piece: &[u8], out: &mut [u8]) -> Turn
     requires { ⌜ length (now piece) * replyRoom ≤ length (now out) ⌝ }
+    ensures { λ r. ⌜ Replied desk (now (piece .entry)) r ⌝ }
 {
     let served = serve_all(desk, piece, out);
     let printed = served.printed;
@@ -70,6 +71,7 @@ fn reply_to(desk: Desk, piece: &[u8], out: &mut [u8]) -> Turn
 // Reads once and replies to the lines that this brought.
 fn take_turn(desk: Desk, out: &mut [u8]) -> Turn
     requires { ⌜ roomBytes ≤ length (now out) ⌝ }
+    ensures { λ r. ⌜ RepliedSome desk r ⌝ }
 {
     let mut piece = [0u8; PIECE];
     let got = libc::read(libc::STDIN_FILENO, &mut piece);

@@ -1,12 +1,17 @@
 -- Whole scripts: each line with the bytes of the file that it names, and what is printed for it, byte by byte. They hold the definitions to docs/RULES.md,
 -- "The desk". The files are those of the edges of crate certificate.
 use Prim.Native.Nat.{ℕ}
+use mathlib.Core.Bool.{Bool, true, false}
 use mathlib.Core.List.{List, [], _∷_, _++_, map}
 use mathlib.Core.Path.{_≡_}
 use Rattle.text.specs.Reading.{pieces}
 use Rattle.model.specs.W.{wFile}
 use Rattle.certificate.specs.Edges.{oneRule, wDelivery}
-use Rattle.script.specs.Script.{LineRead, printedAfter}
+use Rattle.calls.specs.declared.Question.the-variants.{Margin}
+use Rattle.said.specs.declared.Change.the-variants.{Clear, Model, Delivery}
+use Rattle.said.specs.declared.Said.{Said}
+use Rattle.said.specs.declared.Said.the-variants.{Nothing, Unclear, Change, Question}
+use Rattle.script.specs.Script.{LineRead, readsFile, printedAfter}
 
 -- A line with its end (10), the bytes of the file that it names (any, where it names none), and what is printed for it.
 pub record Row : Type 0 where
@@ -68,6 +73,14 @@ wScript =
     ∷ row (115 ∷ 116 ∷ 101 ∷ 112 ∷ 115 ∷ 32 ∷ 48 ∷ 32 ∷ 48 ∷ 10 ∷ []) [] (118 ∷ 97 ∷ 108 ∷ 117 ∷ 101 ∷ 32 ∷ 53 ∷ 49 ∷ 50 ∷ 10 ∷ [])
     -- margin: value 45875
     ∷ row (109 ∷ 97 ∷ 114 ∷ 103 ∷ 105 ∷ 110 ∷ 10 ∷ []) [] (118 ∷ 97 ∷ 108 ∷ 117 ∷ 101 ∷ 32 ∷ 52 ∷ 53 ∷ 56 ∷ 55 ∷ 53 ∷ 10 ∷ [])
+    -- upper 1 0 1: value 1179648
+    ∷ row (117 ∷ 112 ∷ 112 ∷ 101 ∷ 114 ∷ 32 ∷ 49 ∷ 32 ∷ 48 ∷ 32 ∷ 49 ∷ 10 ∷ []) [] (118 ∷ 97 ∷ 108 ∷ 117 ∷ 101 ∷ 32 ∷ 49 ∷ 49 ∷ 55 ∷ 57 ∷ 54 ∷ 52 ∷ 56 ∷ 10 ∷ [])
+    -- lower 1 0 1: value 1048576
+    ∷ row (108 ∷ 111 ∷ 119 ∷ 101 ∷ 114 ∷ 32 ∷ 49 ∷ 32 ∷ 48 ∷ 32 ∷ 49 ∷ 10 ∷ []) [] (118 ∷ 97 ∷ 108 ∷ 117 ∷ 101 ∷ 32 ∷ 49 ∷ 48 ∷ 52 ∷ 56 ∷ 53 ∷ 55 ∷ 54 ∷ 10 ∷ [])
+    -- steps 1 0: value 256
+    ∷ row (115 ∷ 116 ∷ 101 ∷ 112 ∷ 115 ∷ 32 ∷ 49 ∷ 32 ∷ 48 ∷ 10 ∷ []) [] (118 ∷ 97 ∷ 108 ∷ 117 ∷ 101 ∷ 32 ∷ 50 ∷ 53 ∷ 54 ∷ 10 ∷ [])
+    -- live 1 0 1: value 1
+    ∷ row (108 ∷ 105 ∷ 118 ∷ 101 ∷ 32 ∷ 49 ∷ 32 ∷ 48 ∷ 32 ∷ 49 ∷ 10 ∷ []) [] (118 ∷ 97 ∷ 108 ∷ 117 ∷ 101 ∷ 32 ∷ 49 ∷ 10 ∷ [])
     -- live 1 0 0: value 0
     ∷ row (108 ∷ 105 ∷ 118 ∷ 101 ∷ 32 ∷ 49 ∷ 32 ∷ 48 ∷ 32 ∷ 48 ∷ 10 ∷ []) [] (118 ∷ 97 ∷ 108 ∷ 117 ∷ 101 ∷ 32 ∷ 48 ∷ 10 ∷ [])
     -- delivery d: known
@@ -157,3 +170,31 @@ oddScript =
     -- clear and a space, without a line end: unclear
     ∷ row (99 ∷ 108 ∷ 101 ∷ 97 ∷ 114 ∷ 32 ∷ []) [] (117 ∷ 110 ∷ 99 ∷ 108 ∷ 101 ∷ 97 ∷ 114 ∷ 10 ∷ [])
     ∷ []
+
+-- Whether the file of a line is read, by whether a model is held: that of a model where none is, that of a delivery where one is.
+pub record Reading : Type 0 where
+  pub held : Bool
+  pub said : Said
+  pub reads : Bool
+
+abbrev pub reading : Bool → Said → Bool → Reading
+reading h s t = record { held = h; said = s; reads = t }
+
+abbrev pub readings : List Reading
+readings =
+    reading false (Change Model) true
+    ∷ reading true (Change Model) false
+    ∷ reading false (Change Delivery) false
+    ∷ reading true (Change Delivery) true
+    ∷ reading false (Change Clear) false
+    ∷ reading true (Change Clear) false
+    ∷ reading true (Question Margin) false
+    ∷ reading false Nothing false
+    ∷ reading false Unclear false
+    ∷ []
+
+abbrev pub readingOf : Reading → Bool
+readingOf r = readsFile (r .held) (r .said)
+
+abbrev pub readsOf : Reading → Bool
+readsOf r = r .reads

@@ -12,6 +12,7 @@ use Rattle.said.specs.declared.Change.the-variants.{Clear, Model, Delivery}
 use Rattle.said.specs.declared.Said.{Said}
 use Rattle.said.specs.Said.{modelWord, deliveryWord}
 use Rattle.script.specs.declared.Responded.{Responded}
+use Rattle.service.specs.declared.Served.{Served}
 use Rattle.script.specs.Script.{readsFile}
 use Rattle.script.specs.Serving.{keptBytes}
 use Rattle.script.specs.Contracts.{changedBy}
@@ -34,3 +35,7 @@ keptCount k = cond (ltb k keptBytes) (k + 1) k
 
 abbrev pub keptLine : List ℕ → ℕ → ℕ → List ℕ
 keptLine line k b = cond (ltb k keptBytes) (set line k b) line
+
+-- What serving gives, from its parts.
+abbrev pub servedOf : Register → List ℕ → ℕ → ℕ → ℕ → Served
+servedOf r line k n o = record { desk = record { register = r; line = line; kept = k }; taken = n; printed = o }

@@ -15,9 +15,11 @@ use script::reads_file;
 ghost use mathlib.Core.Path.{_≡_};
 ghost use Prim.Native.Nat.{min};
 ghost use Rattle.io.specs.Counts.{Counts};
+ghost use mathlib.Core.Bool.{true};
+ghost use Rattle.script.specs.Script.{readsFile};
 ghost use Rattle.script.specs.Serving.{atStart};
 ghost use Rattle.service.specs.Service.{stateOf, Took};
-ghost use Rattle.service.specs.Contracts.{nameFrom, Performed, keptCount, keptLine};
+ghost use Rattle.service.specs.Contracts.{nameFrom, Performed, keptCount, keptLine, servedOf};
 
 // The bytes that are kept of a line: one more than a line that says a call may have.
 const KEPT: usize = 301;
@@ -65,8 +67,9 @@ fn name_from(change: Change) -> usize
     }
 }
 
-// Reads the file that a line names, as much as `file` holds; nothing where it names none.
-fn fetch(said: Said, line: &[u8], file: &mut [u8]) -> usize
+// Reads the file that a line names, as much as `file` holds. Nobody may ask for it before the register's own reasons: `held` says whether a model is held.
+fn fetch(held: bool, said: Said, line: &[u8], file: &mut [u8]) -> usize
+    requires { ⌜ readsFile held said ≡ true ⌝ }
     ensures { λ r. ⌜ Counts r (now (file .exit)) ⌝ }
 {
     let Said::Change(change) = said else {
@@ -79,21 +82,22 @@ fn fetch(said: Said, line: &[u8], file: &mut [u8]) -> usize
     files::read(&line[from..], file)
 }
 
-// Makes the change that a line asks for. Its file is read only if the register has no reason of its own to refuse it, and one byte more than any
-// accepted file has, so that a longer file is refused by its number.
+// Makes the change that a line asks for. Its file is read only if the register has no reason of its own to refuse it, and one byte more of it than any
+// delivery has that can pass, and any model, so that a longer file is refused by its number.
 fn perform(register: Register, said: Said, line: &[u8]) -> Responded
     ensures { λ r. ⌜ Performed register said r ⌝ }
 {
-    if !reads_file(register.has_model(), said) {
+    let held = register.has_model();
+    if !reads_file(held, said) {
         return change(register, said, b"");
     }
     let mut file = [0u8; delivery::format::MOST_BYTES + 1];
-    let n = fetch(said, line, &mut file);
+    let n = fetch(held, said, line, &mut file);
     change(register, said, &file[..n])
 }
 
 // Keeps a byte of a line, if there is a place for it, and answers how many are kept.
-fn keep(line: &mut [u8; KEPT], kept: usize, byte: u8) -> usize
+fn keep_byte(line: &mut [u8; KEPT], kept: usize, byte: u8) -> usize
     ensures { λ r. ⌜ (r ≡ keptCount kept) × (now (line .exit) ≡ keptLine (now (line .entry)) kept byte) ⌝ }
 {
     if kept < KEPT {
@@ -103,13 +107,36 @@ fn keep(line: &mut [u8; KEPT], kept: usize, byte: u8) -> usize
     kept
 }
 
-// Takes a piece of input, as much of it as there is surely room for the replies to, and prints these from the start of `out` on.
+// What serving gives, from its parts.
+fn finished(
+    register: Register,
+    line: [u8; KEPT],
+    kept: usize,
+    taken: usize,
+    printed: usize,
+) -> Served
+    ensures { λ r. ⌜ r ≡ servedOf register line kept taken printed ⌝ }
+{
+    let desk = Desk {
+        register,
+        line,
+        kept,
+    };
+    Served {
+        desk,
+        taken,
+        printed,
+    }
+}
+
+// Takes a piece of input, as much of it as there is surely room for the replies to, and prints these from the start of `out` on. Questions are answered
+// from a view v of the register, which is taken anew after each change.
 pub fn serve(desk: Desk, piece: &[u8], out: &mut [u8]) -> Served
     ensures { λ r. ⌜ Took desk (now (piece .entry)) (now (out .entry)) (now (out .exit)) r ⌝ }
 {
     let taken = least(piece.len(), out.len() / REPLY_ROOM);
     let mut register = desk.register;
-    let mut view = register.view();
+    let mut v = register.view();
     let mut line = desk.line;
     let mut kept = least(desk.kept, KEPT);
     let mut at = 0;
@@ -118,7 +145,7 @@ pub fn serve(desk: Desk, piece: &[u8], out: &mut [u8]) -> Served
         let byte = piece[i];
         i += 1;
         if byte != b'\n' {
-            kept = keep(&mut line, kept, byte);
+            kept = keep_byte(&mut line, kept, byte);
             continue;
         }
         let said = said_by(&line[..kept]);
@@ -128,30 +155,15 @@ pub fn serve(desk: Desk, piece: &[u8], out: &mut [u8]) -> Served
             let after = changed.register;
             register = after;
             let seen = register.view();
-            view = seen;
+            v = seen;
             let response = changed.response;
             at = put_response(out, at, response);
             continue;
         }
         kept = 0;
-        let shown = view.shown;
-        let response = answer(
-            shown,
-            &view.marks,
-            &view.uppers,
-            &view.lowers,
-            &view.means,
-            said,
-        );
+        let shown = v.shown;
+        let response = answer(shown, &v.marks, &v.uppers, &v.lowers, &v.means, said);
         at = put_response(out, at, response);
     }
-    Served {
-        desk: Desk {
-            register,
-            line,
-            kept,
-        },
-        taken,
-        printed: at,
-    }
+    finished(register, line, kept, taken, at)
 }

@@ -9,23 +9,13 @@ use borrow.Author.Needs.{needs}
 use Rattle.service.proofs.Serving.{stateBy, Serving, serving-none, reply-fits, serving-pushed, serving-changed, serving-answered, printed-fits, serving-all}
 use Rattle.service.proofs.serve.Statement.{statement}
 use Rattle.service.proofs.serve.Tie as tie
-use Rattle.service.proofs.serve.Reads as reads
-use Rattle.service.proofs.serve.Lts as lts
-use Rattle.register.proofs.Register.view.Reads as view-reads
-use Rattle.replies.proofs.put_response.Reads as put-response-reads
-use Rattle.said.proofs.said_by.Reads as said-by-reads
-use Rattle.script.proofs.answer.Reads as answer-reads
-use Rattle.script.proofs.may_change.Reads as may-change-reads
-use Rattle.service.proofs.keep.Reads as keep-reads
-use Rattle.service.proofs.least.Reads as least-reads
-use Rattle.service.proofs.perform.Reads as perform-reads
 
 abbrev Inv-loop : tie.InvT-loop
-Inv-loop piece out₀ taken register₀ view₀ line₀ kept₀ at₀ i₀ out register view line kept at i =
-    Serving (stateBy register₀ line₀ kept₀) piece taken (length out₀) out register view line kept at i
+Inv-loop piece out₀ taken register₀ v₀ line₀ kept₀ at₀ i₀ out register v line kept at i =
+    Serving (stateBy register₀ line₀ kept₀) piece taken (length out₀) out register v line kept at i
 
 abbrev μ-loop : tie.MeasureT-loop
-μ-loop piece out₀ taken register₀ view₀ line₀ kept₀ at₀ i₀ out register view line kept at i = taken - i
+μ-loop piece out₀ taken register₀ v₀ line₀ kept₀ at₀ i₀ out register v line kept at i = taken - i
 
 line-size : (c : tie.Start Inv-loop μ-loop) → length (c .args .desk .line) ≡ 301
 line-size c = sym (length-map (c .args .desk .line) (λ v. v)) ∙ c .good .0 .1 .1 .1 .0 .1 .0 .1
@@ -50,8 +40,8 @@ shared-slice-read-byte c = search needs
 add-i : tie.Need-add-i Inv-loop μ-loop
 add-i c = search needs
 
-keep-requires : tie.Need-keep-requires Inv-loop μ-loop
-keep-requires c κs = search needs
+keep-byte-requires : tie.Need-keep-byte-requires Inv-loop μ-loop
+keep-byte-requires c κs = search needs
 
 loop-less : tie.Need-loop-less Inv-loop μ-loop
 loop-less c = search needs
@@ -59,7 +49,7 @@ loop-less c = search needs
 loop-again : tie.Need-loop-again Inv-loop μ-loop
 loop-again c =
     let turn = c .before .before .before .before in
-    serving-pushed (turn .before .loop .inv) (turn .loop-test .taken) refl (ne-eqb _ 10 (c .before .before .if1 .taken)) (c .keep .ensures .0) (c .keep .ensures .1)
+    serving-pushed (turn .before .loop .inv) (turn .loop-test .taken) refl (ne-eqb _ 10 (c .before .before .if1 .taken)) (c .keep-byte .ensures .0) (c .keep-byte .ensures .1)
 
 array-share-prefix-line : tie.Need-array-share-prefix-line Inv-loop μ-loop
 array-share-prefix-line c = let so = c .before .before .before .loop .inv in omega (arith, so .line-size, so .line-most)
@@ -122,21 +112,26 @@ loop-again-3 c =
     serving-answered (turn .before .loop .inv) (turn .loop-test .taken) refl (eq-eqb _ 10 (test .if1 .left)) (asked .said-by .ensures)
     (sym (branch .before .may-change .ensures) ∙ branch .if2 .left) (answered .answer .ensures) (put .put-response2 .ensures)
 
+finished-requires : tie.Need-finished-requires Inv-loop μ-loop
+finished-requires c κs = search needs
+
 same-length : tie.Need-same-length Inv-loop μ-loop
-same-length c = c .before .loop .inv .same-room
+same-length c = c .before .before .loop .inv .same-room
 
 returns : tie.Need-returns Inv-loop μ-loop
 returns c =
-    let so = c .before .loop .inv in
-    let kept = c .before .before in
+    let all = c .before in
+    let so = all .before .loop .inv in
+    let kept = all .before .before in
     let taken = kept .before .before .before .before in
     let start = taken .before .before .before in
-    record {
+    rw (c .finished .ensures)
+    (record {
       as-many = taken .least .ensures;
       size = so .same-room;
-      fits = printed-fits so (c .loop-test .left);
-      serves = serving-all (start .args .desk .register) (start .args .desk .line) (start .args .desk .kept) (kept .least2 .ensures) (line-size start) so (c .loop-test .left);
-    }
+      fits = printed-fits so (all .loop-test .left);
+      serves = serving-all (start .args .desk .register) (start .args .desk .line) (start .args .desk .kept) (kept .least2 .ensures) (line-size start) so (all .loop-test .left);
+    })
 
 pub serve-spec : {M : Type 1} → statement M
 serve-spec =
@@ -150,7 +145,7 @@ serve-spec =
     loop-holds
     shared-slice-read-byte
     add-i
-    keep-requires
+    keep-byte-requires
     loop-less
     loop-again
     array-share-prefix-line
@@ -168,5 +163,6 @@ serve-spec =
     put-response-requires-2
     loop-less-3
     loop-again-3
+    finished-requires
     same-length
     returns)

@@ -1,11 +1,11 @@
--- `keep`: by whether there is a place for the byte.
+-- `keep_byte`: by whether there is a place for the byte.
 use native.Mathlib.Omega.{arith}
 use mathlib.Core.Path.{refl}
 use Rattle.script.specs.Serving.{keptBytes}
 use borrow.Author.Tests.{lt-ltb, le-ltb}
 use borrow.Author.Needs.{needs}
-use Rattle.service.proofs.keep.Statement.{statement}
-use Rattle.service.proofs.keep.Tie as tie
+use Rattle.service.proofs.keep_byte.Statement.{statement}
+use Rattle.service.proofs.keep_byte.Tie as tie
 
 element-write-line : tie.Need-element-write-line
 element-write-line c = search needs
@@ -19,5 +19,5 @@ returns c = rw (lt-ltb (c .before .args .kept) keptBytes (omega (arith, c .if1 .
 returns-2 : tie.Need-returns-2
 returns-2 c = rw (le-ltb (c .before .args .kept) keptBytes (omega (arith, c .if1 .left))) (refl, refl)
 
-pub keep-spec : {M : Type 1} → statement M
-keep-spec = tie.close (tie.spec element-write-line add-result returns returns-2)
+pub keep-byte-spec : {M : Type 1} → statement M
+keep-byte-spec = tie.close (tie.spec element-write-line add-result returns returns-2)
