@@ -324,7 +324,24 @@ def lost_output(room, rng):
     return "lost output"
 
 
-TESTS = (any_pieces, any_end, any_byte, long_lines, dense_replies, many_reads, many_questions, as_a_person, files_change, files_go_missing, no_file, lost_output)
+def lost_output_ends(room, rng):
+    """After a reply that cannot be written the desk ends, though its input stays open."""
+    with open("/dev/full", "wb") as full:
+        process = subprocess.Popen([room.program], cwd=room.root, stdin=subprocess.PIPE, stdout=full, stderr=subprocess.PIPE, bufsize=0)
+    with process:
+        process.stdin.write(b"# no reply, nothing to write\nclear\n")
+        try:
+            process.wait(SECONDS)
+        except subprocess.TimeoutExpired:
+            process.kill()
+            fail("the desk goes on after lost output")
+        told = process.stderr.read()
+    if told != b"desk: output not written\n" or process.returncode != 0:
+        fail("lost output with input open: status %d, %r" % (process.returncode, told))
+    return "an end on lost output"
+
+
+TESTS = (any_pieces, any_end, any_byte, long_lines, dense_replies, many_reads, many_questions, as_a_person, files_change, files_go_missing, no_file, lost_output, lost_output_ends)
 
 
 def main():
