@@ -11,6 +11,7 @@ import socket
 import subprocess
 import sys
 import tempfile
+import threading
 import time
 from pathlib import Path
 
@@ -299,8 +300,7 @@ def files_go_missing(room, rng):
 # What goes wrong outside.
 
 def no_file(room, rng):
-    """A FIFO without a writer does not hang the desk, and counts as empty; so does a file that may not be read, with a warning."""
-    os.mkfifo(Path(room.root, "fifo"))
+    """A file that may not be read and a folder count as empty, with a warning; so does one that is missing, without."""
     secret, own = Path(room.root, "secret"), Path(room.root, "desk")
     secret.write_bytes(room.folder.files[b"w.tab"])
     secret.chmod(0)
@@ -308,12 +308,69 @@ def no_file(room, rng):
     for path in (own, Path(room.root)):
         path.chmod(0o755)
     user = {"user": "nobody"} if os.getuid() == 0 else {}
-    done = subprocess.run([own], cwd=room.root, input=b"model fifo\nmodel secret\nmodel folder\nmodel gone\n", capture_output=True, timeout=SECONDS, **user)
-    if done.stdout != b"refused 10 0 0\n" * 4:
+    done = subprocess.run([own], cwd=room.root, input=b"model secret\nmodel folder\nmodel gone\n", capture_output=True, timeout=SECONDS, **user)
+    if done.stdout != b"refused 10 0 0\n" * 3:
         fail("files that cannot be read do not count as empty: %r" % done.stdout)
-    if [line for line in done.stderr.splitlines() if not line.startswith(b"fifo: ")] != [b"secret: Permission denied", b"folder: Is a directory"]:
+    if done.stderr != b"secret: Permission denied\nfolder: Is a directory\n":
         fail("warnings: %r" % done.stderr)
     return "files that cannot be read"
+
+
+class FilledPipe:
+    """A named pipe with bytes in it, and with a writer: its maker."""
+
+    def __init__(self, path, data):
+        os.mkfifo(path)
+        self.end, self.data = os.open(path, os.O_RDWR | os.O_NONBLOCK), data
+        os.write(self.end, data)
+
+    def is_untouched(self):
+        """Whether the bytes are still there; asked once."""
+        os.write(self.end, b"!")
+        held = os.read(self.end, len(self.data) + 1)
+        os.close(self.end)
+        return held == self.data + b"!"
+
+
+class AwaitedPipe:
+    """A named pipe whose writer waits until somebody opens it to read."""
+
+    def __init__(self, path):
+        os.mkfifo(path)
+        self.path = path
+        self.writer = threading.Thread(target=lambda: os.close(os.open(path, os.O_WRONLY)), daemon=True)
+        self.writer.start()
+
+    def is_untouched(self):
+        """Whether the writer still waits; asked once, which lets it through."""
+        waits = self.writer.is_alive()
+        end = os.open(self.path, os.O_RDONLY | os.O_NONBLOCK)
+        self.writer.join(SECONDS)
+        os.close(end)
+        return waits
+
+
+# Calls that name pipes, each with its reply and whether it gets a warning. Of a pipe that the register's own reasons keep it from there is none.
+PIPE_CALLS = ((b"delivery filled.cer", b"refused 40 0 0", False), (b"model unwritten", b"refused 10 0 0", True), (b"model link", b"refused 10 0 0", True),
+              (b"model awaited", b"refused 10 0 0", True), (b"model filled.tab", b"refused 10 0 0", True), (b"model w.tab", b"accepted", False),
+              (b"model filled.tab", b"refused 41 0 0", False), (b"delivery filled.cer", b"refused 20 0 0", True), (b"delivery unwritten", b"refused 20 0 0", True))
+
+
+def named_pipes(room, rng):
+    """A named pipe is never opened, whether it has a writer or not, and counts as empty, with a warning."""
+    os.mkfifo(Path(room.root, "unwritten"))
+    Path(room.root, "link").symlink_to("unwritten")
+    pipes = [FilledPipe(Path(room.root, "filled" + end), room.folder.files[b"w" + end.encode()]) for end in (".tab", ".cer")]
+    pipes.append(AwaitedPipe(Path(room.root, "awaited")))
+    script = b"".join(line + b"\n" for line, _, _ in PIPE_CALLS)
+    done = subprocess.run([room.program], cwd=room.root, input=script, capture_output=True, timeout=SECONDS)
+    if not all([pipe.is_untouched() for pipe in pipes]):
+        fail("a named pipe was opened")
+    if done.stdout != b"".join(reply + b"\n" for _, reply, _ in PIPE_CALLS):
+        fail("named pipes do not count as empty: %r" % done.stdout)
+    if done.stderr != b"".join(line.split()[1] + b": a pipe, not opened\n" for line, _, warns in PIPE_CALLS if warns):
+        fail("warnings of named pipes: %r" % done.stderr)
+    return "named pipes, never opened"
 
 
 def lost_output(room, rng):
@@ -341,7 +398,7 @@ def lost_output_ends(room, rng):
     return "an end on lost output"
 
 
-TESTS = (any_pieces, any_end, any_byte, long_lines, dense_replies, many_reads, many_questions, as_a_person, files_change, files_go_missing, no_file, lost_output, lost_output_ends)
+TESTS = (any_pieces, any_end, any_byte, long_lines, dense_replies, many_reads, many_questions, as_a_person, files_change, files_go_missing, no_file, named_pipes, lost_output, lost_output_ends)
 
 
 def main():
