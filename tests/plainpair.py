@@ -3,6 +3,7 @@
 Reads calls as lines on standard input and prints the replies. Each method is one rule, so that tests/wrongdesks.py can change one at a time.
 """
 import os
+import stat
 import sys
 from functools import lru_cache
 
@@ -37,7 +38,7 @@ def margin_of(model, delivery):
 
 
 def read_up_to(path, most):
-    file, data = os.open(path, os.O_RDONLY | os.O_NONBLOCK), b""
+    file, data = os.open(path, os.O_RDONLY), b""
     try:
         while len(data) < most and (piece := os.read(file, most - len(data))):
             data += piece
@@ -46,14 +47,22 @@ def read_up_to(path, most):
     return data
 
 
+def warn(path, what):
+    sys.stderr.buffer.write(path + b": " + what.encode() + b"\n")
+
+
 def read_file(path, most):
-    """Up to `most` bytes of a file. One that is missing or cannot be read counts as empty, the latter with a warning; a FIFO without a writer is empty."""
+    """Up to `most` bytes of a file. One that is missing counts as empty; so does one that cannot be read, and a named pipe, which is never opened, writer or
+    not, both with a warning."""
     try:
-        return read_up_to(path, most)
+        if not stat.S_ISFIFO(os.stat(path).st_mode):
+            return read_up_to(path, most)
+        warn(path, "a pipe, not opened")
+    except FileNotFoundError:
+        pass
     except OSError as error:
-        if not isinstance(error, FileNotFoundError):
-            sys.stderr.buffer.write(path + b": " + os.strerror(error.errno).encode() + b"\n")
-        return b""
+        warn(path, os.strerror(error.errno))
+    return b""
 
 
 class PlainPair:
