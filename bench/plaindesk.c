@@ -8,6 +8,7 @@
 #include <fcntl.h>
 #include <stdio.h>
 #include <string.h>
+#include <sys/stat.h>
 #include <unistd.h>
 
 enum { PIECE = 65536, MOST_LINE = 300, MOST_PATH = 255, MOST_DIGITS = 9, MOST_WORDS = 4, MOST_ENTRIES = 1024 };
@@ -85,7 +86,14 @@ static void reply_refused(uint32_t number, uint32_t place, int64_t shortfall)
 
 /* Files. */
 
-/* Up to `most` bytes of a file; one that is missing or cannot be read counts as empty, the latter with a warning. A FIFO without a writer is empty. */
+static bool is_pipe(const char *path)
+{
+    struct stat found;
+    return stat(path, &found) == 0 && S_ISFIFO(found.st_mode);
+}
+
+/* Up to `most` bytes of a file. One that is missing counts as empty; so does one that cannot be read, and a named pipe, which is never opened, writer or
+   not, both with a warning. */
 static size_t read_file(const struct word *name, uint8_t *bytes, size_t most)
 {
     char path[MOST_PATH + 1];
@@ -93,7 +101,11 @@ static size_t read_file(const struct word *name, uint8_t *bytes, size_t most)
     ssize_t got = 0;
     memcpy(path, name->bytes, name->len);
     path[name->len] = 0;
-    int file = open(path, O_RDONLY | O_NONBLOCK);
+    if (is_pipe(path)) {
+        fprintf(stderr, "%s: a pipe, not opened\n", path);
+        return 0;
+    }
+    int file = open(path, O_RDONLY);
     if (file >= 0)
         while (len < most && (got = read(file, bytes + len, most - len)) > 0)
             len += (size_t)got;
