@@ -334,10 +334,10 @@ def tells_failed_build(tree):
 
 def tells_shut_target(tree):
     tree.root.chmod(0o555)
-    need_ran("no target, and none can be made", tree.run("show", **standin.nobody()), 3, b"", lines=2)
+    need_ran("no target, and none can be made", tree.run("show", **standin.nobody()), 3, b"", lines=1)
     tree.root.chmod(0o755)
     (tree.root / "target").mkdir(mode=0o555)
-    need_ran("a target that cannot be written", tree.run("show", **standin.nobody()), 3, b"", lines=2)
+    need_ran("a target that cannot be written", tree.run("show", **standin.nobody()), 3, b"", lines=1)
 
 
 def builds_once_for_two(tree):
