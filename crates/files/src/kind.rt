@@ -63,7 +63,7 @@ fn mode_of(path: &[u8; PATH_MAX], mut known: stat) -> u32
 
 // Whether the file, or what a link of that name leads to, is a named pipe. A path that is too long names no file. One with a 0 in it is cut there,
 // and nobody opens it: `os::open_read` refuses it.
-pub fn is_pipe(path: &[u8]) -> bool {
+pub(crate) fn is_pipe(path: &[u8]) -> bool {
     if path.len() >= PATH_MAX {
         return false;
     }
