@@ -95,7 +95,7 @@ TABLE = [
     Row("the desk clears at an unclear line", "said/unclear_line_clears", ("return (Said::Unclear);",)),
     Row("the desk clears at an unclear line, by definition", "script/unclear_line_clears", ("eventsBy es unclear = [] ++ es",)),
     Row("the desk writes known for new", "replies/known_written_for_new", ('Mark::New => put(out, (at), b"new\\n"),',)),
-    Row("the desk reads a number as its last digit", "said/number_is_its_last_digit", ("10 * n + (digit - 48) as usize",)),
+    Row("the desk reads a number as its last digit", "spelling/number_is_its_last_digit", ("10 * n + (digit - 48) as usize",)),
     Row("the desk reads a file before the register's own reasons", "script/file_read_before_own_reasons", ("Change::Model => !held & true,",)),
     Row("the desk prints the replies in another order, by definition", "script/replies_in_another_order",
         ("printedAfter es (l ∷ ls) = textBy es (asks l) ++ ([] ++ printedAfter (eventsBy es (asks l)) ls)",)),

@@ -1,31 +1,22 @@
 -- The laws of calls: the word of each says it, any other word says none, and what a line says by its first word and the rest.
-use Prim.Native.Nat.{ℕ, _-_}
-use mathlib.Core.Bool.{true, false, and-eq-true-iff}
-use mathlib.Core.List.{List, [], _∷_}
-use mathlib.Core.Path.{_≡_, refl, sym, ap₂, _∙_}
-use lib.Dec.{eqb}
-use lib.ListN.{length, take, drop}
-use borrow.Author.Tests.{eqb-true}
+use Prim.Native.Nat.{ℕ, _-_, _<_}
 use native.Mathlib.Omega.{arith}
+use mathlib.Core.Bool.{true, false}
+use mathlib.Core.List.{List, [], _∷_}
+use mathlib.Core.Path.{_≡_, refl, sym, _∙_}
+use lib.Dec.{eqb}
+use lib.ListN.{length, take, drop, getD}
+use Rattle.spelling.specs.Spelling.{same, isPlain}
+use Rattle.spelling.specs.Contracts.{wordEnd, argumentsIn}
+use Rattle.spelling.proofs.Words.{same-is, pieces-split}
+use Rattle.spelling.proofs.Rest.{part-from}
 use Rattle.said.specs.declared.Said.{Said}
 use Rattle.calls.specs.declared.Question.the-variants.{Upper, Lower, MeanSteps, Margin, Live}
 use Rattle.said.specs.declared.Change.the-variants.{Clear, Model, Delivery}
 use Rattle.said.specs.declared.Said.the-variants as Says
 use Rattle.said.specs.declared.Said.the-variants.{Nothing, Unclear}
-use Rattle.said.specs.Said.{same, isPlain, isSilent, alone, onFile, onRow, onEntry, byWord, saidBy}
+use Rattle.said.specs.Said.{isSilent, alone, onFile, onRow, onEntry, byWord, saidBy}
 use Rattle.said.specs.Said.{clearWord, modelWord, deliveryWord, upperWord, lowerWord, stepsWord, marginWord, liveWord}
-use Rattle.said.specs.Contracts.{wordEnd, argumentsIn}
-use Rattle.said.proofs.Words.{pieces-split}
-use Rattle.said.proofs.Rest.{part-from}
-
--- Words that are the same are equal.
-pub same-is : (v w : List ℕ) → same v w ≡ true → v ≡ w
-unfolding same
-same-is [] [] e = refl
-same-is [] (y ∷ ys) e = let z : _≡_ {A = ℕ} 0 1 = cc in absurd (omega arith)
-same-is (x ∷ xs) [] e = let z : _≡_ {A = ℕ} 0 1 = cc in absurd (omega arith)
-same-is (x ∷ xs) (y ∷ ys) e =
-    let (first, rest) = and-eq-true-iff (eqb x y) (same xs ys) .0 e in ap₂ (λ z zs. z ∷ zs) (eqb-true x y first) (same-is xs ys rest)
 
 -- Each call by its word.
 module _ (w : List ℕ) (ws : List (List ℕ)) where
@@ -66,6 +57,17 @@ module _ (w : List ℕ) (ws : List (List ℕ)) where
       → same w lowerWord ≡ false → same w stepsWord ≡ false → same w marginWord ≡ false → same w liveWord ≡ false → byWord w ws ≡ Unclear
   unfolding byWord
   says-none a b c d e f g h = rw (a, b, c, d, e, f, g, h)
+
+-- A line that gets no reply is empty, or its byte 0 is `#`.
+pub silent-none : (l : List ℕ) → length l ≡ 0 → isSilent l ≡ true
+unfolding isSilent
+silent-none [] e = refl
+silent-none (x ∷ xs) e = absurd (omega arith)
+
+pub silent-first : (l : List ℕ) → 0 < length l → isSilent l ≡ eqb (getD l 0 0) 35
+unfolding isSilent
+silent-first [] h = absurd (omega arith)
+silent-first (x ∷ xs) h = refl
 
 -- A line by its first word and the rest.
 pub line-says : (l : List ℕ) → isSilent l ≡ false → isPlain l ≡ true → saidBy l ≡ byWord (take (wordEnd l) l) (argumentsIn (drop (wordEnd l) l))

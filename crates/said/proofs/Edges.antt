@@ -2,7 +2,8 @@
 use mathlib.Core.List.{map}
 use mathlib.Core.Path.{_≡_, refl}
 use Rattle.text.specs.Reading.{pieces, numberAfter, numberIn}
-use Rattle.said.specs.Said.{same, every, isPlain, isSilent, isNumber, isName, byWord, saidBy}
+use Rattle.spelling.specs.Spelling.{same, every, isPlain, isNumber, isName}
+use Rattle.said.specs.Said.{isSilent, byWord, saidBy}
 use Rattle.said.specs.Edges.{saidOf, meaningOf, lines}
 
 pub lines-said : map saidOf lines ≡ map meaningOf lines

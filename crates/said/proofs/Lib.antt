@@ -1,5 +1,4 @@
--- What a line says: laws of words, of the words after the first, and of lines.
-pub mod Words
+-- What a line says: laws of what the words after the first say, and of lines.
 pub mod Rest
 pub mod Calls
 pub mod Meaning

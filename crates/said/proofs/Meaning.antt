@@ -10,18 +10,20 @@ use lib.ListN.{length, take, drop, getD, length-drop}
 use lib.Seq.{take-all, length-take-le, drop-drop}
 use borrow.Author.Tests.{eqb-true, leb-true, leb-false, lt-leb}
 use Rattle.text.specs.Reading.{numberIn}
+use Rattle.spelling.specs.Spelling.{same, every, isPrintable, isPlain, isNumber, isName, isFile}
+use Rattle.spelling.specs.Contracts.{wordEnd, argumentsIn}
+use Rattle.spelling.proofs.Words.{same-is, every-false, every-drop, plain-long, end-within, pieces-split, pieces-one}
+use Rattle.spelling.proofs.Rest.{name-of}
 use Rattle.said.specs.declared.Said.{Said}
 use Rattle.calls.specs.declared.Question.{Question}
 use Rattle.calls.specs.declared.Question.the-variants.{Upper, Lower, MeanSteps, Margin, Live}
 use Rattle.said.specs.declared.Change.the-variants.{Clear, Model, Delivery}
 use Rattle.said.specs.declared.Said.the-variants as Says
 use Rattle.said.specs.declared.Said.the-variants.{Nothing, Unclear}
-use Rattle.said.specs.Said.{same, every, isPrintable, isPlain, isSilent, isNumber, isName, alone, isFile, onFile, onRow, onEntry, byWord, saidBy}
+use Rattle.said.specs.Said.{isSilent, alone, onFile, onRow, onEntry, byWord, saidBy}
 use Rattle.said.specs.Said.{clearWord, modelWord, deliveryWord, upperWord, lowerWord, stepsWord, marginWord, liveWord}
-use Rattle.said.specs.Contracts.{wordEnd, argumentsIn, FileLine}
-use Rattle.said.proofs.Words.{every-false, every-drop, plain-long, end-within, pieces-split, pieces-one}
-use Rattle.said.proofs.Rest.{name-of}
-use Rattle.said.proofs.Calls.{same-is, says-model, says-delivery, line-says, silent-says, odd-says}
+use Rattle.said.specs.Contracts.{FileLine}
+use Rattle.said.proofs.Calls.{says-model, says-delivery, line-says, silent-says, odd-says}
 
 -- ---- lines that say no call
 

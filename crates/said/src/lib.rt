@@ -1,19 +1,15 @@
 // What a line of a script says: a call, no call, or nothing that wants a reply.
 
-use arguments::Numbers;
-use arguments::is_file;
-use arguments::numbers_in;
 use calls::Question;
+use spelling::arguments::Numbers;
+use spelling::arguments::is_file;
+use spelling::arguments::numbers_in;
 use spelling::is_plain;
 use spelling::is_word;
 use spelling::word_end;
-
-mod arguments; // arguments.rt: the words after the first
-mod spelling; // spelling.rt: where words end and what they spell
-
 ghost use mathlib.Core.Path.{_≡_};
+ghost use Rattle.spelling.specs.Contracts.{argumentsIn};
 ghost use Rattle.said.specs.Said.{saidBy, isSilent, byWord, alone, onFile, onRow, onEntry};
-ghost use Rattle.said.specs.Contracts.{argumentsIn};
 
 // A call that may change the register. The file that a filing names is the second word of its line.
 pub enum Change {

@@ -28,7 +28,8 @@ use Rattle.verdict.specs.Verdict as verdict
 use Rattle.verdict.specs.Verdict.{numberTests, shapedTests, deliveryTests}
 use Rattle.certificate.specs.Margin.{marginOf}
 use Rattle.history.specs.Plain.{lastModel, lastDelivery, sameUppers, plainReply}
-use Rattle.said.specs.Said.{same, every, isPlain, isSilent, isNumber, isName, byWord, saidBy}
+use Rattle.spelling.specs.Spelling.{same, every, isPlain, isNumber, isName}
+use Rattle.said.specs.Said.{isSilent, byWord, saidBy}
 use Rattle.script.specs.Script.{printedAfter}
 use Rattle.script.specs.Edges.{Printed, shortScript, wScript, unreadScript, oddScript, readings, readingOf, readsOf}
 

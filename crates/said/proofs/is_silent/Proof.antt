@@ -2,7 +2,7 @@
 use native.Mathlib.Omega.{arith}
 use mathlib.Core.Path.{sym}
 use borrow.Author.Needs.{needs}
-use Rattle.said.proofs.Words.{silent-none, silent-first}
+use Rattle.said.proofs.Calls.{silent-none, silent-first}
 use Rattle.said.proofs.is_silent.Statement.{statement}
 use Rattle.said.proofs.is_silent.Tie as tie
 

@@ -1,0 +1,47 @@
+-- The words of a line as the code finds them.
+use Prim.Native.Nat.{ℕ, suc}
+use mathlib.Core.Bool.{cond}
+use mathlib.Core.List.{List, [], _∷_}
+use lib.Dec.{eqb}
+use Rattle.text.specs.Reading.{pieces, numberIn}
+use Rattle.spelling.specs.declared.arguments.Numbers.{Numbers}
+use Rattle.spelling.specs.declared.arguments.Numbers.the-variants.{Two, Three, Other}
+use Rattle.spelling.specs.declared.Number.{Number}
+use Rattle.spelling.specs.declared.Number.the-variants.{Is, Not}
+use Rattle.spelling.specs.Spelling.{isNumber}
+
+-- Where the first word of a text ends: at a space (32), or at the end of the text.
+unfoldable pub wordEnd : List ℕ → ℕ
+wordEnd [] = 0
+wordEnd (x ∷ xs) = cond (eqb x 32) 0 (suc (wordEnd xs))
+
+-- The words of the rest of a line, which is empty or begins with a space.
+unfoldable pub argumentsIn : List ℕ → List (List ℕ)
+argumentsIn [] = []
+argumentsIn (x ∷ xs) = pieces 32 xs
+
+-- A word as a number.
+unfoldable pub numberAs : List ℕ → Number
+numberAs w = cond (isNumber w) (Is (numberIn w)) Not
+
+abbrev pub twoOf : Number → Number → Numbers
+twoOf (Is a) (Is b) = Two a b
+twoOf (Is a) Not = Other
+twoOf Not y = Other
+
+abbrev pub threeOf : Number → Number → Number → Numbers
+threeOf (Is a) (Is b) (Is c) = Three a b c
+threeOf (Is a) (Is b) Not = Other
+threeOf (Is a) Not z = Other
+threeOf Not y z = Other
+
+-- A first number with the words after it, and all words, as numbers.
+unfoldable pub afterFirst : Number → List (List ℕ) → Numbers
+afterFirst x [] = Other
+afterFirst x (b ∷ []) = twoOf x (numberAs b)
+afterFirst x (b ∷ c ∷ []) = threeOf x (numberAs b) (numberAs c)
+afterFirst x (b ∷ c ∷ w ∷ ws) = Other
+
+unfoldable pub numbersOf : List (List ℕ) → Numbers
+numbersOf [] = Other
+numbersOf (a ∷ ws) = afterFirst (numberAs a) ws
