@@ -1,2 +1,2 @@
--- The law of answers.
+-- The laws of answers.
 pub mod Answers

@@ -2,6 +2,7 @@
 use Prim.Native.Nat.{ℕ}
 use mathlib.Core.Bool.{Bool, true, false}
 use lib.IntN.{pos}
+use Rattle.outcome.specs.declared.Reason.{Reason}
 use Rattle.outcome.specs.declared.Reason.the-variants.{NoModel, NoDelivery, NotOfModel, NoBlock}
 use Rattle.outcome.specs.declared.Outcome.{Outcome}
 use Rattle.outcome.specs.declared.Outcome.the-variants as Outcomes
@@ -12,7 +13,7 @@ use Rattle.calls.specs.declared.Answer.{Answer}
 use Rattle.calls.specs.declared.Answer.the-variants.{Value, Refused}
 use Rattle.calls.specs.declared.Question.{Question}
 use Rattle.calls.specs.declared.Question.the-variants as Questions
-use Rattle.calls.specs.Calls.{Call, upper, lower, meanSteps, margin, live, Reply, accepted, known, new, value, refused}
+use Rattle.calls.specs.Calls.{Call, upper, lower, meanSteps, margin, live, within, Reply, accepted, known, new, value, refused}
 
 -- The call that a question of the code is.
 abbrev pub questionCall : Question → Call
@@ -21,15 +22,20 @@ questionCall (Questions.Lower p z q) = lower p z q
 questionCall (Questions.MeanSteps p z) = meanSteps p z
 questionCall Questions.Margin = margin
 questionCall (Questions.Live p z q) = live p z q
+questionCall (Questions.Within n p z q) = within n p z q
 
 -- The first reason that applies, or the number: whether a model is held (40), a delivery (42), the states and symbols are the held model's
--- (44), the block stands (43).
+-- (44), and the question's own last test, with its reason.
+abbrev pub answeredOr : Bool → Bool → Bool → Bool → Reason → ℕ → Answer
+answeredOr false d i k x v = Refused NoModel 0 (pos 0)
+answeredOr true false i k x v = Refused NoDelivery 0 (pos 0)
+answeredOr true true false k x v = Refused NotOfModel 0 (pos 0)
+answeredOr true true true false x v = Refused x 0 (pos 0)
+answeredOr true true true true x v = Value v
+
+-- The same where the last test is whether the block stands (43).
 abbrev pub answered : Bool → Bool → Bool → Bool → ℕ → Answer
-answered false d i k v = Refused NoModel 0 (pos 0)
-answered true false i k v = Refused NoDelivery 0 (pos 0)
-answered true true false k v = Refused NotOfModel 0 (pos 0)
-answered true true true false v = Refused NoBlock 0 (pos 0)
-answered true true true true v = Value v
+answered m d i k v = answeredOr m d i k NoBlock v
 
 -- The number and the values of document 01 for each case of the answers of code. An accepted delivery is always marked.
 abbrev pub modelReply : Outcome → Reply

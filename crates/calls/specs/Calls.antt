@@ -4,7 +4,8 @@ use mathlib.Core.Bool.{Bool, true, false}
 use mathlib.Core.List.{List}
 use lib.IntN.{ℤ, pos}
 
--- A call: clearing; filing a file's bytes as a model or as a delivery; a question on an entry (p, z, q), a row (p, z) or the whole.
+-- A call: clearing; filing a file's bytes as a model or as a delivery; a question on an entry (p, z, q), a row (p, z) or the whole; and on an entry's
+-- chance within n steps (request A.1).
 pub data Call : Type 0 where
   clear : Call
   fileModel : (b : List ℕ) → Call
@@ -14,6 +15,7 @@ pub data Call : Type 0 where
   meanSteps : (p z : ℕ) → Call
   margin : Call
   live : (p z q : ℕ) → Call
+  within : (n p z q : ℕ) → Call
 
 -- A reply, by document 01's numbers: cleared; a model accepted; a delivery accepted and marked; the number asked for; a refusal.
 pub data Reply : Type 0 where

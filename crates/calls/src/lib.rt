@@ -3,7 +3,7 @@
 use outcome::Reason;
 ghost use mathlib.Core.Path.{_≡_};
 ghost use lib.IntN.{pos};
-ghost use Rattle.calls.specs.Answers.{answered};
+ghost use Rattle.calls.specs.Answers.{answeredOr, answered};
 
 // The mark of an accepted delivery; absent where none was accepted.
 pub enum Mark {
@@ -12,13 +12,34 @@ pub enum Mark {
     Absent,
 }
 
-// A question: on an entry, on a row, or on the whole.
+// A question: on an entry, on a row, or on the whole; and on an entry's chance within so many steps.
 pub enum Question {
-    Upper { p: usize, z: usize, q: usize },
-    Lower { p: usize, z: usize, q: usize },
-    MeanSteps { p: usize, z: usize },
+    Upper {
+        p: usize,
+        z: usize,
+        q: usize,
+    },
+    Lower {
+        p: usize,
+        z: usize,
+        q: usize,
+    },
+    MeanSteps {
+        p: usize,
+        z: usize,
+    },
     Margin,
-    Live { p: usize, z: usize, q: usize },
+    Live {
+        p: usize,
+        z: usize,
+        q: usize,
+    },
+    Within {
+        steps: usize,
+        p: usize,
+        z: usize,
+        q: usize,
+    },
 }
 
 // The answer to a question: a number, or a refusal.
@@ -43,9 +64,16 @@ fn refused(reason: Reason) -> Answer
 }
 
 // The answer to a question: the first reason that applies, by whether a model is held, whether a delivery is held, whether the states and
-// symbols are the model's and whether the block stands; or the number.
-pub fn answered(model: bool, delivery: bool, inside: bool, block: bool, value: u64) -> Answer
-    ensures { λ r. ⌜ r ≡ answered model delivery inside block value ⌝ }
+// symbols are the model's and whether the question's own last test passes, which has its own reason; or the number.
+pub fn answered_or(
+    model: bool,
+    delivery: bool,
+    inside: bool,
+    last: bool,
+    reason: Reason,
+    value: u64,
+) -> Answer
+    ensures { λ r. ⌜ r ≡ answeredOr model delivery inside last reason value ⌝ }
 {
     if !model {
         return refused(Reason::NoModel);
@@ -56,8 +84,15 @@ pub fn answered(model: bool, delivery: bool, inside: bool, block: bool, value: u
     if !inside {
         return refused(Reason::NotOfModel);
     }
-    if !block {
-        return refused(Reason::NoBlock);
+    if !last {
+        return refused(reason);
     }
     Answer::Value(value)
+}
+
+// The same for a question whose last test is whether the block stands.
+pub fn answered(model: bool, delivery: bool, inside: bool, block: bool, value: u64) -> Answer
+    ensures { λ r. ⌜ r ≡ answered model delivery inside block value ⌝ }
+{
+    answered_or(model, delivery, inside, block, Reason::NoBlock, value)
 }

@@ -2,7 +2,7 @@
 use Prim.Native.Nat.{_<_}
 use native.Mathlib.Omega.{arith}
 use Rattle.outcome.specs.declared.Reason.{Reason}
-use Rattle.outcome.specs.declared.Reason.the-variants.{ModelLength, OutOfRange, UnusedNotZero, WeightOutOfRange, NotAscending, RowSumWrong, NoShape, NotDue, ValueOutOfRange, DeadNotZero, UpperTooSmall, LowerAboveUpper, LowerTooLarge, MeanTooSmall, NoModel, ModelHeld, NoDelivery, NotOfModel, NoBlock}
+use Rattle.outcome.specs.declared.Reason.the-variants.{ModelLength, OutOfRange, UnusedNotZero, WeightOutOfRange, NotAscending, RowSumWrong, NoShape, NotDue, ValueOutOfRange, DeadNotZero, UpperTooSmall, LowerAboveUpper, LowerTooLarge, MeanTooSmall, NoModel, ModelHeld, NoDelivery, NotOfModel, NoBlock, TooManySteps}
 use Rattle.outcome.specs.Reasons.{numberOf}
 
 in-range : (r : Reason) → (0 < numberOf r) × (numberOf r < 64)
@@ -25,6 +25,7 @@ in-range ModelHeld = omega arith
 in-range NoDelivery = omega arith
 in-range NotOfModel = omega arith
 in-range NoBlock = omega arith
+in-range TooManySteps = omega arith
 
 -- No reason has the number 0.
 pub number-some : (r : Reason) → 0 < numberOf r

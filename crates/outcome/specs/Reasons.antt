@@ -1,7 +1,7 @@
 -- The numbers of document 01 for the reasons ("Reasons found in the files, in order", "Reasons found in the register").
 use Prim.Native.Nat.{ℕ}
 use Rattle.outcome.specs.declared.Reason.{Reason}
-use Rattle.outcome.specs.declared.Reason.the-variants.{ModelLength, OutOfRange, UnusedNotZero, WeightOutOfRange, NotAscending, RowSumWrong, NoShape, NotDue, ValueOutOfRange, DeadNotZero, UpperTooSmall, LowerAboveUpper, LowerTooLarge, MeanTooSmall, NoModel, ModelHeld, NoDelivery, NotOfModel, NoBlock}
+use Rattle.outcome.specs.declared.Reason.the-variants.{ModelLength, OutOfRange, UnusedNotZero, WeightOutOfRange, NotAscending, RowSumWrong, NoShape, NotDue, ValueOutOfRange, DeadNotZero, UpperTooSmall, LowerAboveUpper, LowerTooLarge, MeanTooSmall, NoModel, ModelHeld, NoDelivery, NotOfModel, NoBlock, TooManySteps}
 
 -- The number of a reason.
 abbrev pub numberOf : Reason → ℕ
@@ -24,9 +24,10 @@ numberOf LowerAboveUpper = 25
 numberOf LowerTooLarge = 26
 numberOf MeanTooSmall = 27
 -- The register, in the order in which these apply: no model held; a model filed while one is held; no delivery held; a state or symbol not of
--- the held model; no L or R block in the held delivery.
+-- the held model; no L or R block in the held delivery; more than three steps asked for (request A.1).
 numberOf NoModel = 40
 numberOf ModelHeld = 41
 numberOf NoDelivery = 42
 numberOf NotOfModel = 44
 numberOf NoBlock = 43
+numberOf TooManySteps = 45

@@ -27,6 +27,7 @@ pub enum Reason {
     NoDelivery,
     NotOfModel,
     NoBlock,
+    TooManySteps,
 }
 
 // What a check answers: accepted, or the first failing test's reason, place and shortfall.
@@ -63,6 +64,7 @@ pub fn number(reason: Reason) -> u32
         Reason::NoDelivery => 42,
         Reason::NotOfModel => 44,
         Reason::NoBlock => 43,
+        Reason::TooManySteps => 45,
     }
 }
 

@@ -45,6 +45,7 @@ cases =
     ∷ case 28 0 (inDelivery nothing)
     ∷ case 40 0 (inDelivery nothing)
     ∷ case 44 0 (inDelivery nothing)
+    ∷ case 45 0 (inDelivery nothing)
     ∷ []
 
 -- The numbers after record 0, 1, 2 and 3 of a model of 25 bytes and of a delivery of 20: a walk stays at its end.

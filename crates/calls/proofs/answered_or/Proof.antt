@@ -1,10 +1,10 @@
--- `answered`: by the cases of each test, which tell of a path that it is not taken, or that its answer is the one due.
+-- `answered_or`: by the cases of each test, which tell of a path that it is not taken, or that its answer is the one due.
 use mathlib.Core.Bool.{true, true≢false, false≢true}
 use mathlib.Core.Path.{_≡_}
 use borrow.Author.Needs.{needs}
 use Rattle.outcome.proofs.Tests.{by-cases}
-use Rattle.calls.proofs.answered.Statement.{statement}
-use Rattle.calls.proofs.answered.Tie as tie
+use Rattle.calls.proofs.answered_or.Statement.{statement}
+use Rattle.calls.proofs.answered_or.Tie as tie
 
 refused-requires : tie.Need-refused-requires
 refused-requires c κs = search needs
@@ -53,19 +53,19 @@ refused-requires-4 c κs = search needs
 returns-4 : tie.Need-returns-4
 returns-4 c =
     let e = c .before .before in
-    by-cases (e .before .before .before .args .block)
+    by-cases (e .before .before .before .args .last)
     (λ k. rw (model-held (e .before .before), delivery-held (e .before), of-model e, k) (c .refused4 .ensures))
     (λ k. absurd (false≢true (rw k at (c .before .if4 .taken))))
 
--- The block stands past the last.
-block-stands : (c : tie.Else4) → c .before .before .before .before .args .block ≡ true
-block-stands c = by-cases (c .before .before .before .before .args .block) (λ k. absurd (true≢false (rw k at (c .if4 .left)))) (λ k. k)
+-- The last test passes past the fourth.
+last-passes : (c : tie.Else4) → c .before .before .before .before .args .last ≡ true
+last-passes c = by-cases (c .before .before .before .before .args .last) (λ k. absurd (true≢false (rw k at (c .if4 .left)))) (λ k. k)
 
 returns-5 : tie.Need-returns-5
-returns-5 c = rw (model-held (c .before .before .before), delivery-held (c .before .before), of-model (c .before), block-stands c)
+returns-5 c = rw (model-held (c .before .before .before), delivery-held (c .before .before), of-model (c .before), last-passes c)
 
-pub answered-spec : {M : Type 1} → statement M
-answered-spec =
+pub answered-or-spec : {M : Type 1} → statement M
+answered-or-spec =
     tie.close
     (tie.spec
     refused-requires
