@@ -4,6 +4,7 @@ pub mod Edges
 pub mod Rows
 pub mod Steps
 pub mod Stacks
+pub mod Pairs
 pub mod Equations
 pub mod Vectors
 pub mod Upper

@@ -41,9 +41,13 @@ pub record Certificate (m : List Rule) (s g : ℕ) (u l : Vector) (r : RowVector
 
 -- ---- what mission point 3 promises, of one entry or row. Its inequalities stand here once; files, registers, printed lines and C hosts cite them.
 
+-- A chance c within n steps is at most the upper u: c counts 1/65,536^n, u counts 1/2^20.
+abbrev pub AtMostUpper : ℕ → ℕ → ℕ → Type 0
+AtMostUpper n c u = c * chanceUnit ≤ u * weightUnit ^ n
+
 -- "Every chance within n steps is at most the upper": of the entry (p, z, q), for the upper u.
 abbrev pub UpperHolds : List Rule → ℕ → ℕ → ℕ → ℕ → Type 0
-UpperHolds m p z q u = (n : ℕ) → chance m n p z q * chanceUnit ≤ u * weightUnit ^ n
+UpperHolds m p z q u = (n : ℕ) → AtMostUpper n (chance m n p z q) u
 
 -- The most steps of a run that k rounds of f from zero hold (document 01, "Mistakes of method"; theorems `scale-is`, `rounds-le-chance`).
 unfoldable pub stepsOf : ℕ → ℕ

@@ -1,11 +1,14 @@
 -- Rows and entries by their numbers in file order: row (p, z) is number p × g + z, and entry (p, z, q) is number (p × g + z) × s + q.
 use Prim.Native.Nat.{ℕ, zero, suc, _+_, _*_, _/_, _%_, _≤_, _<_}
-use native.Mathlib.Nat.{mul-le-mul-right, mod-lt, div-lt-iff-lt-mul, div-add-mod'}
+use native.Mathlib.Nat.{suc-mul, zero-mul, mul-le-mul-right, mod-lt, div-lt-iff-lt-mul, div-add-mod'}
 use native.Mathlib.Omega.{arith}
 use mathlib.Core.Bool.{Bool, true, false}
-use mathlib.Core.Path.{_≡_, refl, sym}
+use mathlib.Core.Path.{_≡_, refl, sym, ap, ap₂, _∙_}
 use lib.Dec.{ltb}
 use borrow.Author.Tests.{ltb-true, ltb-false}
+use Rattle.walks.specs.Sums.{sumTo}
+use Rattle.walks.specs.Order.{byRow}
+use Rattle.walks.proofs.Sums.{sumTo-cong, sumTo-split}
 
 -- A row of a lower state has a lower number.
 pub row-lower : (g p z p′ z′ : ℕ) → z < g → p < p′ → p * g + z < p′ * g + z′
@@ -50,3 +53,13 @@ row-below s g p z hp hz = omega (arith, row-lower g p z s 0 hz hp)
 
 pub entry-below : (s g p z q : ℕ) → p < s → z < g → q < s → (p * g + z) * s + q < s * g * s
 entry-below s g p z q hp hz hq = row-below (s * g) s (p * g + z) q (row-below s g p z hp hz) hq
+
+-- A sum over the numbers of rows is the sum over each state's rows, summed.
+pub sumTo-rows : (s g : ℕ) (h : ℕ → ℕ → ℕ) → sumTo (byRow g h) (s * g) ≡ sumTo (λ p. sumTo (h p) g) s
+unfolding sumTo
+sumTo-rows zero g h = ap (sumTo (byRow g h)) (zero-mul g)
+sumTo-rows (suc s) g h =
+    ap (sumTo (byRow g h)) (suc-mul s g)
+    ∙ sumTo-split (byRow g h) (s * g) g
+    ∙ ap₂ _+_ (sumTo-rows s g h)
+    (sumTo-cong _ (h s) g (λ i l. let at = row-at g s i l in ap₂ h (at .0) (at .1)))

@@ -1,6 +1,6 @@
 -- The laws of sums, of least and greatest values and of tests over numbers.
 use Prim.Native.Nat.{ℕ, zero, suc, _+_, _*_, _≤_, _<_, min, max}
-use native.Mathlib.Nat.{le-min, max-le, le-refl, add-le-add, zero-add, mul-zero, zero-mul, eq-zero-or-pos, not-suc-le-zero, eq-or-lt-of-le, le-of-suc-le-suc}
+use native.Mathlib.Nat.{le-min, max-le, le-refl, add-le-add, zero-add, add-zero, add-suc, mul-zero, zero-mul, eq-zero-or-pos, not-suc-le-zero, eq-or-lt-of-le, le-of-suc-le-suc}
 use native.Mathlib.Numerals.{add-one}
 use native.Mathlib.Omega.{arith}
 use mathlib.Core.Bool.{Bool, true, and-eq-true-iff}
@@ -162,6 +162,16 @@ term-le-sumTo h (suc n) i b = go (eq-or-lt-of-le (le-of-suc-le-suc b)) (λ c. te
     go (inl e) rest = rw e (omega arith)
     go (inr c) rest = let t : h i ≤ sumTo h n = rest c in omega arith
 
+-- More terms make no smaller sum.
+pub sumTo-grows : (h : ℕ → ℕ) (a n : ℕ) → a ≤ n → sumTo h a ≤ sumTo h n
+unfolding sumTo
+sumTo-grows h a zero l = let e : a ≡ 0 = omega arith in rw e (le-refl _)
+sumTo-grows h a (suc n) l = go (eq-or-lt-of-le l) (λ m. sumTo-grows h a n m)
+  where
+    go : (a ≡ suc n) ⊎ (a < suc n) → (a ≤ n → sumTo h a ≤ sumTo h n) → sumTo h a ≤ sumTo h n + h n
+    go (inl e) rest = rw e (le-refl (sumTo h n + h n))
+    go (inr m) rest = omega (arith, rest (le-of-suc-le-suc m))
+
 -- A sum of n terms of at most b each.
 pub sumTo-le : (h : ℕ → ℕ) (b n : ℕ) → ((i : ℕ) → i < n → h i ≤ b) → sumTo h n ≤ n * b
 unfolding sumTo
@@ -180,6 +190,12 @@ sumTo-tight h k (suc n) e c i b = go (eq-or-lt-of-le (le-of-suc-le-suc b)) (λ d
     go : (i ≡ n) ⊎ (i < n) → (sumTo k n ≤ sumTo h n → i < n → k i ≤ h i) → k i ≤ h i
     go (inl q) rest = rw q (omega (arith, sumTo-mono h k n below))
     go (inr d) rest = rest (omega (arith, e n (le-refl (suc n)))) d
+
+-- The first a terms, and the others.
+pub sumTo-split : (h : ℕ → ℕ) (a b : ℕ) → sumTo h (a + b) ≡ sumTo h a + sumTo (λ i. h (a + i)) b
+unfolding sumTo
+sumTo-split h a zero = rw (add-zero a) (sym (add-zero (sumTo h a)))
+sumTo-split h a (suc b) = rw (add-suc a b, sumTo-split h a b) (omega arith)
 
 -- A sum in which only the term at p can differ from 0.
 pub sumTo-pick : (h : ℕ → ℕ) (p n : ℕ) → p < n → sumTo (λ i. bit (eqb p i) * h i) n ≡ h p
