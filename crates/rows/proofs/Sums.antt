@@ -1,9 +1,8 @@
 -- Sums record by record over one row's range are the theory's sums over the row, and stay within their limits.
 use Prim.Native.Nat.{ℕ, zero, suc, _+_, _*_, _/_, _%_, _≤_, _<_}
-use native.Mathlib.Nat.{le-refl, le-trans, zero-mul, eq-or-lt-of-le, le-of-suc-le-suc, mul-le-mul-left, mul-le-mul-right}
+use native.Mathlib.Nat.{le-refl, le-trans, zero-mul, mul-le-mul-left, mul-le-mul-right}
 use native.Mathlib.Omega.{arith}
 use mathlib.Core.List.{List}
-use mathlib.Core.Logic.{_⊎_, inl, inr}
 use mathlib.Core.Path.{_≡_, refl, sym, ap, ap₂, _∙_}
 use lib.Dec.{eqb}
 use lib.ListN.{getD}
@@ -12,7 +11,7 @@ use Rattle.walks.proofs.Places.{row-of, row-below}
 use Rattle.walks.specs.Sums.{bit, sumTo}
 use Rattle.ppda.specs.Units.{weightUnit}
 use Rattle.ppda.specs.Rules.{Push, nothing, one, two, fits, overRow}
-use Rattle.walks.proofs.Sums.{sumTo-none, sumTo-past, sumTo-step, sumTo-le, sumTo-mono}
+use Rattle.walks.proofs.Sums.{sumTo-none, sumTo-past, sumTo-step, sumTo-le, sumTo-mono, sumTo-grows}
 use Rattle.ppda.proofs.Rows.{row-const}
 use Rattle.model.specs.Format.{mostStates}
 use Rattle.model.specs.Records.{recordsOf, target, weight}
@@ -23,17 +22,6 @@ use Rattle.model.proofs.Accepted.{sized-fits}
 use Rattle.model.specs.Contracts.{StartsAt, Sized}
 use Rattle.rows.specs.Contracts.{Starts}
 use Rattle.rows.proofs.Ranges.{starts-ascend}
-
--- ---- sums by their last term
-
-sumTo-grows : (h : ℕ → ℕ) (a n : ℕ) → a ≤ n → sumTo h a ≤ sumTo h n
-unfolding sumTo
-sumTo-grows h a zero l = let e : a ≡ 0 = omega arith in rw e (le-refl _)
-sumTo-grows h a (suc n) l = go (eq-or-lt-of-le l) (λ m. sumTo-grows h a n m)
-  where
-    go : (a ≡ suc n) ⊎ (a < suc n) → (a ≤ n → sumTo h a ≤ sumTo h n) → sumTo h a ≤ sumTo h n + h n
-    go (inl e) rest = rw e (le-refl (sumTo h n + h n))
-    go (inr m) rest = omega (arith, rest (le-of-suc-le-suc m))
 
 -- ---- a sum over states
 
@@ -172,6 +160,10 @@ module _ {b : List ℕ} {s g p z : ℕ} {h : ℕ → Push → ℕ} {k a e o i n 
         to = omega arith;
         sum = omega (arith, at .sum, sumTo-step (addend b p z h) i, added);
       }
+
+  -- A record that adds nothing.
+  pub row-skip : i < e → h (target b i) (pushAt b i) ≡ 0 → RowSum b s g p z h k a e o (i + 1) n
+  row-skip l none = let same : n + weight b i * 0 ≡ n = omega arith in rw same at (row-more l refl (sym none))
 
   pub row-end : e ≤ i → n ≡ o + overRow (rulesOf b) p z (λ r. h (r .target) (r .push))
   row-end l =

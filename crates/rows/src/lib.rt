@@ -37,7 +37,7 @@ fn start(model: &[u8], n: Sizes, k: usize, i: usize) -> usize
 // Finds where each row starts, and where the last ends.
 pub fn find_starts(model: &[u8], n: Sizes, starts: &mut [u16; STARTS])
     requires { ⌜ Sized (now model) (n .states) (n .symbols) × (length (now starts) ≡ mostRows + 1) ⌝ }
-    ensures { λ _. ⌜ Indexed (now (model .entry)) n (now (starts .exit)) ⌝ }
+    ensures { λ _. ⌜ Indexed (now (model .entry)) n (now (starts .exit)) × (length (now (starts .exit)) ≡ mostRows + 1) ⌝ }
 {
     let rows = n.rows();
     let mut at = 0;

@@ -37,7 +37,7 @@ gaps-with-requires c κs =
     let entries = c .before .before in
     let starts = entries .before in
     let sizes = starts .before .before in
-    block-stands _ _ (entries .entries .ensures .0) (sizes .before .before .before .pre) (starts .find-starts .ensures)
+    block-stands _ _ (entries .entries .ensures .0) (sizes .before .before .before .pre) (starts .find-starts .ensures .0)
 
 returns : tie.Need-returns
 returns c =

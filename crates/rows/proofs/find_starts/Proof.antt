@@ -59,7 +59,7 @@ loop-again c =
 returns : tie.Need-returns Inv-loop μ-loop
 returns c =
     let rows = c .before .before .rows .ensures .0 in
-    record { sized = c .before .before .before .before .pre .0; starts-at = λ k h. c .before .loop .inv .5 k (omega arith) }
+    (record { sized = c .before .before .before .before .pre .0; starts-at = λ k h. c .before .loop .inv .5 k (omega arith) }, c .before .loop .inv .2)
 
 pub find-starts-spec : {M : Type 1} → statement M
 find-starts-spec =

@@ -13,7 +13,7 @@ find-starts-requires : tie.Need-find-starts-requires
 find-starts-requires c κs = (c .before .before .before .pre .0 .file .sized, refl)
 
 find-marks-requires : tie.Need-find-marks-requires
-find-marks-requires c κs = (c .before .before .find-starts .ensures, refl)
+find-marks-requires c κs = (c .before .before .find-starts .ensures .0, refl)
 
 entries-requires : tie.Need-entries-requires
 entries-requires c κs = sized-fits (c .before .before .before .before .before .before .before .pre .0 .file .sized)
@@ -32,7 +32,7 @@ margin-of-requires c κs =
     let file = pre .0 .file in
     let e = c .before .before .before .entries .ensures .0 in
     record {
-      indexed = c .before .before .before .before .before .before .before .find-starts .ensures;
+      indexed = c .before .before .before .before .before .before .before .find-starts .ensures .0;
       chances = accepted-in-range _ (file .sized) (file .of) (pre .0 .accepted) e;
       strict = accepted-strict (file .sized) _ e (c .before .before .before .before .find-marks .ensures) (pre .0 .accepted) (file .of) (pre .1);
     }

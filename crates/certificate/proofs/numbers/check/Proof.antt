@@ -16,7 +16,7 @@ find-starts-requires : tie.Need-find-starts-requires
 find-starts-requires c κs = (c .before .before .before .before .pre .file .sized, refl)
 
 find-marks-requires : tie.Need-find-marks-requires
-find-marks-requires c κs = (c .before .before .find-starts .ensures, refl)
+find-marks-requires c κs = (c .before .before .find-starts .ensures .0, refl)
 
 mul-uppers : tie.Need-mul-uppers
 mul-uppers c = search needs
@@ -65,7 +65,7 @@ check-rest-requires c κs =
     let pre = entries .before .before .before .pre in
     let e = entries .entries .ensures .0 in
     record {
-      indexed = starts .find-starts .ensures;
+      indexed = starts .find-starts .ensures .0;
       uppers = uppers-in-range _ _ _ (pre .file .of) (pre .layout) e;
       read = rest-in-range _ _ _ (pre .file .of) (pre .layout) e;
     }

@@ -32,7 +32,7 @@ find-starts-requires : tie.Need-find-starts-requires
 find-starts-requires c κs = (sized (c .before), refl)
 
 find-marks-requires : tie.Need-find-marks-requires
-find-marks-requires c κs = (c .before .before .find-starts .ensures, refl)
+find-marks-requires c κs = (c .before .before .find-starts .ensures .0, refl)
 
 by-entries-requires : tie.Need-by-entries-requires
 by-entries-requires c κs = sized-fits (sized (c .before .before .before .before .before .before))
