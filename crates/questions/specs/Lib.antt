@@ -1,2 +1,3 @@
--- The five questions, answered from what is held.
+-- The questions, answered from what is held. `Contracts` serves the contracts of the code alone.
 pub mod Questions
+pub mod Contracts

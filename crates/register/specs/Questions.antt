@@ -1,12 +1,13 @@
--- The five questions, answered by a register (document 01, "Filing and questions" and "Reasons found in the register").
+-- The questions, answered by a register (document 01, "Filing and questions" and "Reasons found in the register"; request A.1).
 use Prim.Native.Nat.{ℕ}
 use mathlib.Core.Bool.{Bool}
+use mathlib.Core.List.{List, [], _∷_}
 use Rattle.calls.specs.declared.Answer.{Answer}
 use Rattle.register.specs.declared.Register.{Register}
 use Rattle.held.specs.Held.{holdsModel}
 use Rattle.questions.specs.declared.Shown.{Shown}
 use Rattle.questions.specs.declared.View.{View}
-use Rattle.questions.specs.Questions.{upperAnswer, lowerAnswer, meanAnswer, marginAnswer, liveAnswer}
+use Rattle.questions.specs.Questions.{upperAnswer, lowerAnswer, meanAnswer, marginAnswer, liveAnswer, withinAnswer}
 
 -- Whether a model is held: where one is, filing a model is refused by 41, and where none is, all else is by 40.
 unfoldable pub hasModel : Register → Bool
@@ -22,17 +23,15 @@ shownOf r = record {
   margin = r .numbers .margin;
 }
 
--- All that questions are answered from.
-abbrev pub viewOf : Register → View
-viewOf r = record {
-  shown = shownOf r;
-  marks = r .model .live;
-  uppers = r .numbers .uppers;
-  lowers = r .numbers .lowers;
-  means = r .numbers .means;
-}
+-- The lists of numbers in file order: live marks, uppers, lowers and mean steps.
+abbrev pub listsOf : Register → List (List ℕ)
+listsOf r = r .model .live ∷ r .numbers .uppers ∷ r .numbers .lowers ∷ r .numbers .means ∷ []
 
--- An entry's upper, its lower, a row's mean steps, the margin, and an entry's live mark.
+-- What questions are answered from, beside these.
+abbrev pub viewOf : Register → View
+viewOf r = record { shown = shownOf r; bytes = r .model .bytes }
+
+-- An entry's upper, its lower, a row's mean steps, the margin, an entry's live mark, and its chance within n steps.
 unfoldable pub upperIn : Register → ℕ → ℕ → ℕ → Answer
 upperIn r p z q = upperAnswer (shownOf r) (r .numbers .uppers) p z q
 
@@ -47,3 +46,6 @@ marginIn r = marginAnswer (shownOf r)
 
 unfoldable pub liveIn : Register → ℕ → ℕ → ℕ → Answer
 liveIn r p z q = liveAnswer (shownOf r) (r .model .live) p z q
+
+unfoldable pub withinIn : Register → ℕ → ℕ → ℕ → ℕ → Answer
+withinIn r n p z q = withinAnswer (shownOf r) (r .model .bytes) n p z q

@@ -15,14 +15,19 @@ use held::holds_model;
 use held::is_held;
 use held::no_model;
 use held::no_numbers;
+use model::format::MOST_ENTRIES;
 use model::sizes::sizes_of;
 use outcome::Outcome;
 use outcome::is_refused;
+use questions::LISTS;
 use questions::Shown;
 use questions::View;
+use questions::index;
+use questions::short::Asked;
+use rows::STARTS;
 ghost use mathlib.Core.Path.{_≡_};
 ghost use Rattle.register.specs.Filing.{cleared, turnedDown, fileModel, turnedAway, fileDelivery};
-ghost use Rattle.register.specs.Questions.{hasModel, shownOf, viewOf, upperIn, lowerIn, meanIn, marginIn, liveIn};
+ghost use Rattle.register.specs.Questions.{hasModel, shownOf, listsOf, viewOf, upperIn, lowerIn, meanIn, marginIn, liveIn, withinIn};
 
 // At most one model and one delivery: the held delivery's shape, and its numbers beside it.
 pub struct Register {
@@ -194,21 +199,36 @@ impl Register {
         questions::live(self.shown(), &list, p, z, q)
     }
 
-    // All that questions are answered from.
+    // The chance of an entry within so many steps, which needs a model only.
+    pub fn within(self, steps: usize, p: usize, z: usize, q: usize) -> Answer
+        ensures { λ r. ⌜ r ≡ withinIn self steps p z q ⌝ }
+    {
+        let shown = self.shown();
+        let bytes = self.model.bytes;
+        let length = self.model.length;
+        let mut starts = [0u16; STARTS];
+        let sizes = index::find(&bytes, length, &mut starts);
+        let asked = Asked { steps, p, z, q };
+        questions::within(shown, sizes, &bytes, &starts, asked)
+    }
+
+    // What questions are answered from, beside the lists of numbers.
     pub fn view(self) -> View
         ensures { λ r. ⌜ r ≡ viewOf self ⌝ }
     {
         let shown = self.shown();
+        let bytes = self.model.bytes;
+        View { shown, bytes }
+    }
+
+    // Its lists of numbers.
+    pub fn lists(self) -> [[u32; MOST_ENTRIES]; LISTS]
+        ensures { λ r. ⌜ r ≡ listsOf self ⌝ }
+    {
         let marks = self.model.live;
         let uppers = self.numbers.uppers;
         let lowers = self.numbers.lowers;
         let means = self.numbers.means;
-        View {
-            shown,
-            marks,
-            uppers,
-            lowers,
-            means,
-        }
+        [marks, uppers, lowers, means]
     }
 }

@@ -1,4 +1,4 @@
--- `view`: the register's own lists, beside what it shows.
+-- `view`: the register's own bytes, beside what it shows.
 use mathlib.Core.Path.{refl}
 use borrow.Author.Needs.{needs}
 use Rattle.register.proofs.Register.view.Statement.{statement}
@@ -8,7 +8,7 @@ shown-requires : tie.Need-shown-requires
 shown-requires c κs = search needs
 
 returns : tie.Need-returns
-returns c = rw (c .before .before .before .before .shown .ensures) refl
+returns c = rw (c .before .shown .ensures) refl
 
 pub view-spec : {M : Type 1} → statement M
 view-spec = tie.close (tie.spec shown-requires returns)

@@ -1,0 +1,2 @@
+-- The laws that the functions' proofs share.
+pub mod ShortChances
