@@ -1,11 +1,13 @@
 -- The table of exchanges holds, computed on the plain pair; so a register replies as the table has it.
-use mathlib.Core.List.{List, [], _∷_, map}
+use mathlib.Core.List.{List, [], _∷_, map, flatMap}
 use mathlib.Core.Path.{_≡_, refl, ap, _∙_}
 use Rattle.walks.specs.Lists.{listTo, each}
 use Rattle.outcome.specs.Tests.{first}
 use Rattle.words.specs.Words.{wordAt}
 use Rattle.walks.specs.Sums.{sign, sum, sumTo, leastTo, allTo, greatestTo}
 use Rattle.ppda.specs.Rules.{fits, overRow}
+use Rattle.ppda.specs.Runs.{after, lists, weigh, overRuns, overRunsWithin}
+use Rattle.ppda.specs.Chances.{chanceFrom}
 use Rattle.ppda.specs.Equations.{f, meanSide}
 use Rattle.ppda.specs.Live.{mark, isLive, alive}
 use Rattle.ppda.specs.Margin.{share, shareAt, margin}
@@ -25,14 +27,14 @@ use Rattle.verdict.specs.Verdict as verdict
 use Rattle.verdict.specs.Verdict.{numberTests, shapedTests, deliveryTests}
 use Rattle.certificate.specs.Margin.{marginOf}
 use Rattle.history.specs.Plain.{Event, lastModel, lastDelivery, sameUppers, plainReply, plainReplies}
-use Rattle.history.specs.Edges.{callOf, replyDue, AllReplied, Replied, emptyExchanges, modelExchanges, upperExchanges, lowerExchanges, meanExchanges, allExchanges, wideExchanges}
+use Rattle.history.specs.Edges.{callOf, replyDue, AllReplied, Replied, emptyExchanges, modelExchanges, upperExchanges, lowerExchanges, meanExchanges, allExchanges, wideExchanges, shortExchanges}
 use Rattle.history.proofs.Replies.{replies-as-plain}
 
 -- ---- computed
 
-computed : AllReplied [] emptyExchanges × AllReplied [] modelExchanges × AllReplied [] upperExchanges × AllReplied [] lowerExchanges × AllReplied [] meanExchanges × AllReplied [] allExchanges × AllReplied [] wideExchanges
-unfolding first each wordAt sign sum sumTo leastTo fits overRow f meanSide mark isLive alive share shareAt margin recordsOf field weight greatestTo statesOf symbolsOf ruleOf listTo rulesOf rowOf rowSum wholeRecords rangeAt unusedAt weightAt ascends recordTests rowTests rowsTests modelTests modelVerdict byteOf valueAt meansFrom recordsIn longAs lowersOrMeans shapeOf uppersOf lowersOf meansOf eachEntry eachRow isDue inRange layout.recordTests deadTest upperTest belowTest lowerTest meanTest upperRecords lowerRecords meanRecords deadTests upperTests belowTests lowerTests meanTests layoutTests numberTests shapedTests deliveryTests verdict.verdict marginOf liveMark allTo lastModel lastDelivery sameUppers plainReply
-computed = ((refl, (refl, (refl, (refl, (refl, (refl, (refl, (refl, (refl, tt))))))))), (refl, (refl, (refl, (refl, (refl, (refl, (refl, (refl, (refl, (refl, (refl, (refl, (refl, tt))))))))))))), (refl, (refl, (refl, (refl, (refl, (refl, (refl, (refl, (refl, (refl, (refl, (refl, (refl, (refl, (refl, (refl, (refl, (refl, tt)))))))))))))))))), (refl, (refl, (refl, (refl, (refl, (refl, tt)))))), (refl, (refl, (refl, (refl, (refl, (refl, (refl, tt))))))), (refl, (refl, (refl, (refl, (refl, (refl, (refl, (refl, (refl, (refl, (refl, (refl, (refl, (refl, (refl, (refl, tt)))))))))))))))), (refl, (refl, (refl, (refl, (refl, (refl, (refl, (refl, (refl, (refl, (refl, (refl, tt)))))))))))))
+computed : AllReplied [] emptyExchanges × AllReplied [] modelExchanges × AllReplied [] upperExchanges × AllReplied [] lowerExchanges × AllReplied [] meanExchanges × AllReplied [] allExchanges × AllReplied [] wideExchanges × AllReplied [] shortExchanges
+unfolding chanceFrom overRunsWithin overRuns lists flatMap after weigh first each wordAt sign sum sumTo leastTo fits overRow f meanSide mark isLive alive share shareAt margin recordsOf field weight greatestTo statesOf symbolsOf ruleOf listTo rulesOf rowOf rowSum wholeRecords rangeAt unusedAt weightAt ascends recordTests rowTests rowsTests modelTests modelVerdict byteOf valueAt meansFrom recordsIn longAs lowersOrMeans shapeOf uppersOf lowersOf meansOf eachEntry eachRow isDue inRange layout.recordTests deadTest upperTest belowTest lowerTest meanTest upperRecords lowerRecords meanRecords deadTests upperTests belowTests lowerTests meanTests layoutTests numberTests shapedTests deliveryTests verdict.verdict marginOf liveMark allTo lastModel lastDelivery sameUppers plainReply
+computed = ((refl, (refl, (refl, (refl, (refl, (refl, (refl, (refl, (refl, (refl, (refl, tt))))))))))), (refl, (refl, (refl, (refl, (refl, (refl, (refl, (refl, (refl, (refl, (refl, (refl, (refl, tt))))))))))))), (refl, (refl, (refl, (refl, (refl, (refl, (refl, (refl, (refl, (refl, (refl, (refl, (refl, (refl, (refl, (refl, (refl, (refl, tt)))))))))))))))))), (refl, (refl, (refl, (refl, (refl, (refl, tt)))))), (refl, (refl, (refl, (refl, (refl, (refl, (refl, tt))))))), (refl, (refl, (refl, (refl, (refl, (refl, (refl, (refl, (refl, (refl, (refl, (refl, (refl, (refl, (refl, (refl, tt)))))))))))))))), (refl, (refl, (refl, (refl, (refl, (refl, (refl, (refl, (refl, (refl, (refl, (refl, tt)))))))))))), (refl, (refl, (refl, (refl, (refl, (refl, (refl, (refl, (refl, (refl, (refl, (refl, (refl, (refl, (refl, (refl, (refl, (refl, (refl, (refl, (refl, (refl, (refl, (refl, (refl, (refl, (refl, (refl, (refl, (refl, (refl, (refl, (refl, (refl, tt)))))))))))))))))))))))))))))))))))
 
 -- ---- so does a register
 
@@ -44,7 +46,7 @@ as-due past (e ∷ es) all = rw (all .0) (ap (λ rs. e .reply ∷ rs) (as-due (e
 replied : (es : List Event) → AllReplied [] es → Replied es
 replied es all = replies-as-plain (map callOf es) ∙ as-due [] es all
 
-pub exchanges-replied : Replied emptyExchanges × Replied modelExchanges × Replied upperExchanges × Replied lowerExchanges × Replied meanExchanges × Replied allExchanges × Replied wideExchanges
+pub exchanges-replied : Replied emptyExchanges × Replied modelExchanges × Replied upperExchanges × Replied lowerExchanges × Replied meanExchanges × Replied allExchanges × Replied wideExchanges × Replied shortExchanges
 exchanges-replied = (
   replied emptyExchanges (computed .0),
   replied modelExchanges (computed .1),
@@ -53,4 +55,5 @@ exchanges-replied = (
   replied meanExchanges (computed .4),
   replied allExchanges (computed .5),
   replied wideExchanges (computed .6),
+  replied shortExchanges (computed .7),
 )

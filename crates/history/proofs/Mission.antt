@@ -8,7 +8,7 @@ use Rattle.history.proofs.Refusals.{refused-keeps}
 use Rattle.history.proofs.Plain.{holds-pair, as-plain-pair, model-taken, delivery-taken}
 use Rattle.history.proofs.Replies.{replies-as-plain}
 use Rattle.history.proofs.Named.{number-listed, model-named, delivery-named}
-use Rattle.history.proofs.Shown.{upper-shown, lower-shown, mean-shown, live-shown}
+use Rattle.history.proofs.Shown.{upper-shown, lower-shown, mean-shown, live-shown, short-shown, short-under-upper}
 
 pub mission : (cs : List Call) → Mission cs
 mission cs = record {
@@ -26,4 +26,6 @@ mission cs = record {
   lowers-true = lower-shown cs;
   means-true = mean-shown cs;
   live-marks-true = live-shown cs;
+  short-chances-true = short-shown cs;
+  short-chances-under-uppers = short-under-upper cs;
 }

@@ -7,7 +7,7 @@ use mathlib.Core.List.{List, [], _∷_}
 use mathlib.Core.Logic.{_↔_, inl, inr}
 use mathlib.Core.Option.{Option, none, some}
 use mathlib.Core.Path.{_≡_, refl, sym, ap, _∙_}
-use lib.Dec.{eqb, ltb}
+use lib.Dec.{eqb, ltb, leb}
 use lib.IntN.{ℤ}
 use borrow.Author.Tests.{eqb-true, eqb-false}
 use Rattle.walks.specs.Sums.{In}
@@ -25,11 +25,13 @@ use Rattle.delivery.specs.declared.shape.Shaped.{Shaped}
 use Rattle.delivery.specs.declared.shape.Shaped.the-variants.{Of, Unknown}
 use Rattle.delivery.specs.Shapes.{hasLowers, hasMeans, shapeOf}
 use Rattle.delivery.specs.Numbers.{uppersOf, lowersOf, meansOf}
+use Rattle.ppda.specs.Chances.{chance}
+use Rattle.model.specs.Rules.{rulesOf}
 use Rattle.verdict.specs.Marks.{liveMark}
 use Rattle.verdict.specs.Verdict.{deliveryTests, verdict}
 use Rattle.verdict.proofs.Places.{delivery-number}
 use Rattle.certificate.specs.Margin.{marginOf}
-use Rattle.calls.specs.Calls.{Call, clear, fileModel, fileDelivery, upper, lower, meanSteps, margin, live, Reply, accepted, value, refused, taken}
+use Rattle.calls.specs.Calls.{Call, clear, fileModel, fileDelivery, upper, lower, meanSteps, margin, live, within, Reply, accepted, value, refused, taken}
 use Rattle.calls.specs.Calls as Calls
 use Rattle.history.specs.Plain.{lastModel, lastDelivery, ofModel, ofDelivery, ifNone, ofBlock, byVerdict, markOf, plainReply}
 use Rattle.history.specs.Run.{replyTo, history}
@@ -159,3 +161,8 @@ number-listed cs (live p z q) n i k e =
     of-model (lastModel (history cs)) _ (44 ∷ [])
     (λ b held. of-test ((ltb p (statesOf b) && ltb z (symbolsOf b)) && ltb q (statesOf b)) _ 44 [] (no-refusal (liveMark b p z q) []))
     (sym (as-plain-pair cs (live p z q)) ∙ e)
+number-listed cs (within m p z q) n i k e =
+    of-model (lastModel (history cs)) _ (44 ∷ 45 ∷ [])
+    (λ b held. of-test ((ltb p (statesOf b) && ltb z (symbolsOf b)) && ltb q (statesOf b)) _ 44 (45 ∷ [])
+    (of-test (leb m 3) _ 45 [] (no-refusal (chance (rulesOf b) m p z q) [])))
+    (sym (as-plain-pair cs (within m p z q)) ∙ e)

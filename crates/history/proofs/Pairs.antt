@@ -6,7 +6,7 @@ use mathlib.Core.List.{List}
 use mathlib.Core.Logic.{_↔_, Iff·trans}
 use mathlib.Core.Option.{Option, none, some}
 use mathlib.Core.Path.{_≡_, refl, sym, ap, _∙_}
-use lib.Dec.{ltb}
+use lib.Dec.{ltb, leb}
 use lib.ListN.{length, getD}
 use Rattle.outcome.specs.declared.Outcome.{Outcome}
 use Rattle.outcome.specs.declared.Outcome.the-variants.{Accepted, Refused}
@@ -40,10 +40,15 @@ use Rattle.filing.specs.Known.{sameTo, markBy}
 use Rattle.filing.proofs.Known.{same-found}
 use Rattle.register.specs.Filing.{withModel, modelBy, deliveryBy, received, shapeFor}
 use Rattle.calls.specs.Answers.{answered}
-use Rattle.register.specs.Questions.{upperIn, lowerIn, meanIn, marginIn, liveIn}
-use Rattle.calls.specs.Calls.{Call, clear, fileModel, fileDelivery, upper, lower, meanSteps, margin, live, Reply, accepted, known, new, value, refusal, taken}
-use Rattle.history.specs.Plain.{Pair, ofModel, ofDelivery, ifNone, atRow, atEntry, ofBlock, byVerdict, sameRecord, sameUppers, markOf, modelAfter, deliveryAfter, plainReply}
-use Rattle.calls.specs.Answers.{modelReply, markReply, deliveryReply, answerReply}
+use Rattle.register.specs.Questions.{upperIn, lowerIn, meanIn, marginIn, liveIn, withinIn}
+use Rattle.calls.specs.Calls.{Call, clear, fileModel, fileDelivery, upper, lower, meanSteps, margin, live, within, Reply, accepted, known, new, value, refusal, taken}
+use Rattle.history.specs.Plain.{Pair, ofModel, ofDelivery, ifNone, atRow, atEntry, ofBlock, toThree, byVerdict, sameRecord, sameUppers, markOf, modelAfter, deliveryAfter, plainReply}
+use Rattle.calls.specs.Answers.{answeredOr, modelReply, markReply, deliveryReply, answerReply}
+use Rattle.outcome.specs.declared.Reason.the-variants.{TooManySteps}
+use Rattle.ppda.specs.Chances.{chance}
+use Rattle.model.specs.Rules.{rulesOf}
+use Rattle.shortruns.specs.Short.{fewSteps}
+use Rattle.questions.specs.Questions.{shortChance}
 use Rattle.history.specs.Run.{afterCall, replyOf, holding, registerOf}
 
 -- The reply to a question on a block that the held delivery may have, for the model b and the delivery d.
@@ -142,6 +147,29 @@ module _ (b : List ℕ) (y : Option (List ℕ)) (right : Right (some b) y) where
       let is = model-right b y right in
       simp (model-of-pair b y, held-length b is)
       (entry-reply (statesOf b) (symbolsOf b) _ true (liveMark b) (λ has. listed-same b is (liveMark b)) p z q)
+
+  -- The chance of a short run: 44, then 45, then the number, which is worked out only where it is shown.
+  short-by : (n p z q : ℕ)
+      → answerReply (answeredOr true true (hasEntry (statesOf b) (symbolsOf b) p z q) (fewSteps n) TooManySteps (shortChance b n p z q))
+      ≡ atEntry b p z q (toThree n (value (chance (rulesOf b) n p z q)))
+  unfolding hasEntry hasRow fewSteps shortChance
+  short-by n p z q =
+      rw (model-right b y right)
+      (go ((ltb p (statesOf b) && ltb z (symbolsOf b)) && ltb q (statesOf b)) (leb n 3))
+    where
+      go : (t k : Bool) → answerReply (answeredOr true true t k TooManySteps (cond (t && k) (chance (rulesOf b) n p z q) 0))
+          ≡ cond t (cond k (value (chance (rulesOf b) n p z q)) (refusal 45)) (refusal 44)
+      go true true = refl
+      go true false = refl
+      go false k = refl
+
+  within-reply : (n p z q : ℕ)
+      → answerReply (withinIn (holding (some b) y) n p z q) ≡ atEntry b p z q (toThree n (value (chance (rulesOf b) n p z q)))
+  unfolding withinIn modelHeld
+  within-reply n p z q =
+      let is = model-right b y right in
+      let records = size b is .file .records in
+      simp (model-of-pair b y, held-length b is, filled-back mostBytes b (omega (arith, records .most, records .whole))) (short-by n p z q)
 
 -- ---- a held delivery
 
@@ -310,6 +338,12 @@ unfolding liveIn
 live-of-pair none y right p z q = rw cleared-holds
 live-of-pair (some b) y right p z q = live-reply b y right p z q
 
+within-of-pair : (m y : Option (List ℕ)) → Right m y → (n p z q : ℕ) → answerReply (withinIn (holding m y) n p z q)
+    ≡ ofModel m (λ b. atEntry b p z q (toThree n (value (chance (rulesOf b) n p z q))))
+unfolding withinIn
+within-of-pair none y right n p z q = rw cleared-holds
+within-of-pair (some b) y right n p z q = within-reply b y right n p z q
+
 pub reply-of-pair : (x : Pair) → Right (x .model) (x .delivery) → (c : Call) → replyOf (registerOf x) c ≡ plainReply x c
 unfolding replyOf plainReply registerOf
 reply-of-pair x right clear = refl
@@ -320,6 +354,7 @@ reply-of-pair x right (lower p z q) = lower-of-pair (x .model) (x .delivery) rig
 reply-of-pair x right (meanSteps p z) = mean-of-pair (x .model) (x .delivery) right p z
 reply-of-pair x right margin = margin-of-pair (x .model) (x .delivery) right
 reply-of-pair x right (live p z q) = live-of-pair (x .model) (x .delivery) right p z q
+reply-of-pair x right (within n p z q) = within-of-pair (x .model) (x .delivery) right n p z q
 
 -- ---- the pair after a call
 
@@ -372,3 +407,4 @@ next-of-pair x right (lower p z q) = record { held = refl; right = right }
 next-of-pair x right (meanSteps p z) = record { held = refl; right = right }
 next-of-pair x right margin = record { held = refl; right = right }
 next-of-pair x right (live p z q) = record { held = refl; right = right }
+next-of-pair x right (within n p z q) = record { held = refl; right = right }

@@ -12,7 +12,7 @@ use Rattle.calls.specs.declared.Mark.{Mark}
 use Rattle.calls.specs.declared.Mark.the-variants.{Known, New, Absent}
 use Rattle.register.specs.Filing as Filing
 use Rattle.register.proofs.Keeps.{model-keeps, delivery-keeps}
-use Rattle.calls.specs.Calls.{Call, clear, fileModel, fileDelivery, upper, lower, meanSteps, margin, live, refused}
+use Rattle.calls.specs.Calls.{Call, clear, fileModel, fileDelivery, upper, lower, meanSteps, margin, live, within, refused}
 use Rattle.calls.specs.Answers.{modelReply, markReply, deliveryReply}
 use Rattle.history.specs.Run.{afterCall, replyOf}
 use Rattle.history.specs.Mission.{RefusedKeeps}
@@ -42,3 +42,4 @@ refused-keeps r (lower p z q) n i k e = refl
 refused-keeps r (meanSteps p z) n i k e = refl
 refused-keeps r margin n i k e = refl
 refused-keeps r (live p z q) n i k e = refl
+refused-keeps r (within m p z q) n i k e = refl

@@ -3,17 +3,22 @@
 use Prim.Native.Nat.{ℕ, _≤_, _<_}
 use native.Mathlib.Omega.{arith}
 use mathlib.Core.Bool.{Bool, true, false, cond, _&&_}
-use mathlib.Core.List.{List}
+use mathlib.Core.List.{List, flatMap}
 use mathlib.Core.Option.{Option, none, some}
-use mathlib.Core.Path.{_≡_, refl, sym, _∙_}
-use lib.Dec.{ltb}
+use mathlib.Core.Path.{_≡_, refl, sym, ap, _∙_}
+use lib.Dec.{ltb, leb}
 use borrow.Author.Tests.{lt-ltb}
 use Rattle.outcome.specs.declared.Outcome.the-variants.{Accepted}
-use Rattle.walks.proofs.Exactly.{lt-exactly, both}
+use Rattle.walks.proofs.Exactly.{lt-exactly, le-exactly, both}
+use Rattle.walks.specs.Sums.{sum, sumTo}
+use Rattle.ppda.specs.Rules.{fits}
+use Rattle.ppda.specs.Runs.{after, lists, weigh, overRuns, overRunsWithin}
+use Rattle.ppda.specs.Chances.{chanceFrom, chance}
 use Rattle.ppda.specs.Bounds.{UpperHolds, MeanHolds}
 use Rattle.ppda.proofs.Marks.{alive-is-bit}
 use Rattle.model.specs.Records.{statesOf, symbolsOf}
 use Rattle.model.specs.Rules.{rulesOf}
+use Rattle.model.specs.W.{wFile}
 use Rattle.wellformed.specs.Verdict.{modelVerdict}
 use Rattle.delivery.specs.declared.shape.Shape.{Shape}
 use Rattle.delivery.specs.declared.shape.Shaped.{Shaped}
@@ -24,11 +29,12 @@ use Rattle.verdict.specs.Marks.{liveMark}
 use Rattle.verdict.proofs.Marks.{live-marks-by-runs}
 use Rattle.verdict.specs.Verdict.{verdict}
 use Rattle.certificate.specs.Margin.{marginOf}
+use Rattle.certificate.proofs.Edges.{w-said}
 use Rattle.certificate.proofs.Holds.{accepted-true, true-of-shape}
-use Rattle.calls.specs.Calls.{Call, upper, lower, meanSteps, margin, live, Reply, value, refusal}
-use Rattle.history.specs.Plain.{lastModel, lastDelivery, ofModel, ofDelivery, ofBlock, atEntry, atRow, plainReply}
+use Rattle.calls.specs.Calls.{Call, upper, lower, meanSteps, margin, live, within, Reply, value, refusal}
+use Rattle.history.specs.Plain.{lastModel, lastDelivery, ofModel, ofDelivery, ofBlock, atEntry, atRow, toThree, plainReply}
 use Rattle.history.specs.Run.{replyTo, history}
-use Rattle.history.specs.Mission.{Holds, UpperShown, LowerHeld, LowerShown, MeanShown, LiveShown}
+use Rattle.history.specs.Mission.{Holds, UpperShown, LowerHeld, LowerShown, MeanShown, LiveShown, ShortShown, ShortUnderUpper}
 use Rattle.history.proofs.Pairs.{lowerReply, meanReply, Right, model-held-right}
 use Rattle.history.proofs.Plain.{right-pair, as-plain-pair}
 
@@ -162,3 +168,36 @@ live-shown cs p z q a e =
     let is = model-held-right (lastDelivery (history cs)) (right-pair cs) held in
     let same : liveMark b p z q ≡ a = cc in
     (b, held, rw same at (live-marks-by-runs b is p z q hp hz hq), rw same at (live-bit b p z q is))
+
+pub short-shown : (cs : List Call) → ShortShown cs
+unfolding plainReply
+short-shown cs n p z q c e =
+    let (b, held, inner) = model-asked (lastModel (history cs)) (λ b. atEntry b p z q (toThree n (value (chance (rulesOf b) n p z q))))
+    (sym (as-plain-pair cs (within n p z q)) ∙ e) in
+    let (hp, hz, hq, reply) = entry-asked (statesOf b) (symbolsOf b) p z q (toThree n (value (chance (rulesOf b) n p z q))) inner in
+    let (few, number) = test-passed (leb n 3) (value (chance (rulesOf b) n p z q)) 45 reply in
+    let same : c ≡ chance (rulesOf b) n p z q = cc in
+    (b, held, same, le-exactly n 3 .0 few)
+
+-- The model is the one for which the upper holds.
+pub short-under-upper : (cs : List Call) → ShortUnderUpper cs
+short-under-upper cs n p z q c u asked bound =
+    let (b, held, same, few) = short-shown cs n p z q c asked in
+    let (a, again, holds) = upper-shown cs p z q u bound in
+    let one : a ≡ b = cc in
+    rw (same, ← one) (holds n)
+
+-- ---- what the two promises say of the request's figure
+
+-- An upper that is shown beside it is 0.5625 or more.
+pub short-bites : (cs : List Call) (u : ℕ) → ShortUnderUpper cs → replyTo cs (within 3 0 0 0) ≡ value 158329674399744 → replyTo cs (upper 0 0 0) ≡ value u
+    → 589824 ≤ u
+short-bites cs u under asked bound = omega (arith, under 3 0 0 0 158329674399744 u asked bound)
+
+-- For W it is the number that is shown.
+pub short-shown-bites : (cs : List Call) (c : ℕ) → ShortShown cs → Holds cs wFile → replyTo cs (within 3 0 0 0) ≡ value c → c ≡ 158329674399744
+unfolding chanceFrom overRunsWithin overRuns sumTo sum lists flatMap after weigh fits
+short-shown-bites cs c shown held asked =
+    let (b, again, same, few) = shown 3 0 0 0 c asked in
+    let one : b ≡ wFile = cc in
+    same ∙ ap (λ f. chance (rulesOf f) 3 0 0 0) one ∙ ap (λ m. chance m 3 0 0 0) w-said

@@ -1,4 +1,4 @@
--- Calls on a register in the order of time, each with the reply that is due, by document 01's numbers: the reasons 40 to 44 and their order, the
+-- Calls on a register in the order of time, each with the reply that is due, by document 01's numbers: the reasons 40 to 45 and their order, the
 -- marks, refusals that change nothing, and clearing. The files are those of the edges of crate certificate.
 use Prim.Native.Nat.{ℕ}
 use mathlib.Core.List.{List, [], _∷_, _++_, map}
@@ -8,7 +8,7 @@ use Rattle.model.specs.W.{wFile}
 use Rattle.delivery.specs.Made.{deliveryRecord}
 use Rattle.certificate.specs.Edges.{oneRule, wDelivery, allToZero, fourRows}
 use Rattle.register.specs.Filing as Filing
-use Rattle.calls.specs.Calls.{Call, clear, fileModel, fileDelivery, upper, lower, meanSteps, margin, live, Reply, cleared, accepted, known, new, value, refused, refusal}
+use Rattle.calls.specs.Calls.{Call, clear, fileModel, fileDelivery, upper, lower, meanSteps, margin, live, within, Reply, cleared, accepted, known, new, value, refused, refusal}
 use Rattle.history.specs.Plain.{Event, pairOf, plainReply}
 use Rattle.history.specs.Run.{replies}
 
@@ -59,6 +59,8 @@ emptyExchanges =
     ∷ due (live 9 9 9) (refusal 40)
     ∷ due (fileModel []) (refusal 10)
     ∷ due (live 0 0 0) (refusal 40)
+    ∷ due (within 0 0 0 0) (refusal 40)
+    ∷ due (within 4 9 9 9) (refusal 40)
     ∷ []
 
 -- A model alone: 41 before the file is read, 42 before 44; live marks get 44 only.
@@ -162,4 +164,44 @@ wideExchanges =
     ∷ due (live 0 1 0) (value 1)
     ∷ due (live 1 0 1) (value 0)
     ∷ due (upper 1 2 0) (refusal 44)
+    ∷ []
+
+-- Chances of short runs (request A.1), of all entries of W, 0 to 3 steps: they need a model only, and a delivery does not change them. 44 before 45, for each of p, Z and
+-- q; 45 from 4 steps on, up to the largest number that can be asked; the figure of the request is that of the entry (0, 0, 0) within 3 steps.
+abbrev pub shortExchanges : List Event
+shortExchanges =
+    due (fileModel wFile) accepted
+    ∷ due (within 0 0 0 0) (value 0)
+    ∷ due (within 0 0 0 1) (value 0)
+    ∷ due (within 0 1 0 0) (value 0)
+    ∷ due (within 0 1 0 1) (value 0)
+    ∷ due (within 1 0 0 0) (value 32768)
+    ∷ due (within 1 0 0 1) (value 16384)
+    ∷ due (within 1 1 0 0) (value 0)
+    ∷ due (within 1 1 0 1) (value 65536)
+    ∷ due (within 2 0 0 0) (value 2147483648)
+    ∷ due (within 2 0 0 1) (value 1073741824)
+    ∷ due (within 2 1 0 0) (value 0)
+    ∷ due (within 2 1 0 1) (value 4294967296)
+    ∷ due (within 3 0 0 0) (value 158329674399744)
+    ∷ due (within 3 0 0 1) (value 96757023244288)
+    ∷ due (within 3 1 0 0) (value 0)
+    ∷ due (within 3 1 0 1) (value 281474976710656)
+    ∷ due (within 3 2 0 0) (refusal 44)
+    ∷ due (within 3 0 1 0) (refusal 44)
+    ∷ due (within 3 0 0 2) (refusal 44)
+    ∷ due (within 4 2 0 0) (refusal 44)
+    ∷ due (within 4 0 1 0) (refusal 44)
+    ∷ due (within 4 0 0 2) (refusal 44)
+    ∷ due (within 18446744073709551615 0 0 18446744073709551615) (refusal 44)
+    ∷ due (within 4 0 0 0) (refusal 45)
+    ∷ due (within 4 1 0 1) (refusal 45)
+    ∷ due (within 65536 0 0 0) (refusal 45)
+    ∷ due (within 18446744073709551615 0 0 0) (refusal 45)
+    ∷ due (fileDelivery (wDelivery 524288 512)) new
+    ∷ due (within 3 0 0 0) (value 158329674399744)
+    ∷ due (within 4 0 0 0) (refusal 45)
+    ∷ due clear cleared
+    ∷ due (within 3 0 0 0) (refusal 40)
+    ∷ due (within 4 0 0 0) (refusal 40)
     ∷ []

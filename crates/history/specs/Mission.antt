@@ -10,8 +10,9 @@ use lib.IntN.{ℤ}
 use Rattle.outcome.specs.Reasons.{numberOf}
 use Rattle.outcome.specs.Tests.{Test, FirstFailure}
 use Rattle.walks.specs.Sums.{In}
+use Rattle.ppda.specs.Chances.{chance}
 use Rattle.ppda.specs.Live.{isLive, Live}
-use Rattle.ppda.specs.Bounds.{UpperHolds, LowerHolds, MeanHolds}
+use Rattle.ppda.specs.Bounds.{AtMostUpper, UpperHolds, LowerHolds, MeanHolds}
 use Rattle.model.specs.Rules.{rulesOf}
 use Rattle.model.specs.Accepted.{ModelFile}
 use Rattle.wellformed.specs.Verdict.{modelTests}
@@ -19,7 +20,7 @@ use Rattle.verdict.specs.Verdict.{deliveryTests}
 use Rattle.verdict.specs.Accepted.{RightFiles}
 use Rattle.register.specs.declared.Register.{Register}
 use Rattle.register.specs.Filing.{cleared, Marked}
-use Rattle.calls.specs.Calls.{Call, clear, fileModel, fileDelivery, upper, lower, meanSteps, margin, live, accepted, value, refused, taken}
+use Rattle.calls.specs.Calls.{Call, clear, fileModel, fileDelivery, upper, lower, meanSteps, margin, live, within, accepted, value, refused, taken}
 use Rattle.history.specs.Plain.{lastModel, pairOf, plainReply, plainReplies}
 use Rattle.history.specs.Run.{afterCall, replyOf, registerAfter, replyTo, history, replies, registerOf}
 
@@ -35,6 +36,7 @@ listed (lower p z q) = 40 ∷ 42 ∷ 44 ∷ 43 ∷ []
 listed (meanSteps p z) = 40 ∷ 42 ∷ 44 ∷ 43 ∷ []
 listed margin = 40 ∷ 42 ∷ 43 ∷ []
 listed (live p z q) = 40 ∷ 44 ∷ []
+listed (within n p z q) = 40 ∷ 44 ∷ 45 ∷ []
 
 -- "Bad input gets its listed number": a refusal has a number of the call's list. (Which one is said under point 2.)
 abbrev pub NumberListed : List Call → Type 0
@@ -116,6 +118,16 @@ LiveShown cs =
     (p z q a : ℕ) → replyTo cs (live p z q) ≡ value a
     → (b : List ℕ) × Holds cs b × ((isLive a ≡ true) ↔ Live (rulesOf b) p z q) × (a ≤ 1)
 
+-- The chance shown of a short run is the run chance ("The results equal the run chances that the third mission point is about", request A.1), for n up to 3; and it is at
+-- most the upper that is shown of the entry.
+abbrev pub ShortShown : List Call → Type 0
+ShortShown cs =
+    (n p z q c : ℕ) → replyTo cs (within n p z q) ≡ value c → (b : List ℕ) × Holds cs b × (c ≡ chance (rulesOf b) n p z q) × (n ≤ 3)
+
+abbrev pub ShortUnderUpper : List Call → Type 0
+ShortUnderUpper cs =
+    (n p z q c u : ℕ) → replyTo cs (within n p z q) ≡ value c → replyTo cs (upper p z q) ≡ value u → AtMostUpper n c u
+
 -- ---- the mission, point by point
 
 pub record Mission (cs : List Call) : Type 0 where
@@ -140,3 +152,6 @@ pub record Mission (cs : List Call) : Type 0 where
   pub lowers-true : LowerShown cs
   pub means-true : MeanShown cs
   pub live-marks-true : LiveShown cs
+  -- So are the chances of short runs, and they keep to the uppers (request A.1).
+  pub short-chances-true : ShortShown cs
+  pub short-chances-under-uppers : ShortUnderUpper cs

@@ -4,13 +4,15 @@ use Prim.Native.Nat.{ℕ}
 use mathlib.Core.Bool.{Bool, cond, _&&_}
 use mathlib.Core.List.{List, [], _∷_}
 use mathlib.Core.Option.{Option, none, some}
-use lib.Dec.{eqb, ltb}
+use lib.Dec.{eqb, ltb, leb}
 use Rattle.outcome.specs.declared.Outcome.{Outcome}
 use Rattle.outcome.specs.declared.Outcome.the-variants.{Accepted, Refused}
 use Rattle.outcome.specs.Reasons.{numberOf}
 use Rattle.walks.specs.Sums.{allTo}
 use Rattle.walks.specs.Order.{entriesIn}
+use Rattle.ppda.specs.Chances.{chance}
 use Rattle.model.specs.Records.{statesOf, symbolsOf}
+use Rattle.model.specs.Rules.{rulesOf}
 use Rattle.wellformed.specs.Verdict.{modelVerdict}
 use Rattle.delivery.specs.declared.shape.Shape.{Shape}
 use Rattle.delivery.specs.declared.shape.Shaped.{Shaped}
@@ -21,7 +23,7 @@ use Rattle.delivery.specs.Numbers.{uppersOf, lowersOf, meansOf}
 use Rattle.verdict.specs.Marks.{liveMark}
 use Rattle.verdict.specs.Verdict.{verdict}
 use Rattle.certificate.specs.Margin.{marginOf}
-use Rattle.calls.specs.Calls.{Call, clear, fileModel, fileDelivery, upper, lower, meanSteps, margin, live, Reply, cleared, accepted, known, new, value, refused, refusal, taken}
+use Rattle.calls.specs.Calls.{Call, clear, fileModel, fileDelivery, upper, lower, meanSteps, margin, live, within, Reply, cleared, accepted, known, new, value, refused, refusal, taken}
 
 -- ---- which files are held
 
@@ -40,6 +42,7 @@ modelAfter (lower p z q) t former = former
 modelAfter (meanSteps p z) t former = former
 modelAfter margin t former = former
 modelAfter (live p z q) t former = former
+modelAfter (within n p z q) t former = former
 
 unfoldable pub lastModel : List Event → Option (List ℕ)
 lastModel [] = none
@@ -55,6 +58,7 @@ deliveryAfter (lower p z q) t former = former
 deliveryAfter (meanSteps p z) t former = former
 deliveryAfter margin t former = former
 deliveryAfter (live p z q) t former = former
+deliveryAfter (within n p z q) t former = former
 
 unfoldable pub lastDelivery : List Event → Option (List ℕ)
 lastDelivery [] = none
@@ -68,7 +72,7 @@ pub record Pair : Type 0 where
 abbrev pub pairOf : List Event → Pair
 pairOf es = record { model = lastModel es; delivery = lastDelivery es }
 
--- ---- what a pair replies: the reasons found in the register come first, in the order 40, 41, 42, 44, 43
+-- ---- what a pair replies: the reasons found in the register come first, in the order 40, 41, 42, 44, 43, 45
 
 -- 40, 42: no model, no delivery is held.
 abbrev pub ofModel : Option (List ℕ) → (List ℕ → Reply) → Reply
@@ -95,6 +99,10 @@ atEntry b p z q r = cond ((ltb p (statesOf b) && ltb z (symbolsOf b)) && ltb q (
 abbrev pub ofBlock : (Shape → Bool) → Shaped → (Shape → Reply) → Reply
 ofBlock has (Of h) k = cond (has h) (k h) (refusal 43)
 ofBlock has Unknown k = refusal 43
+
+-- 45: n is above 3 (request A.1).
+abbrev pub toThree : ℕ → Reply → Reply
+toThree n r = cond (leb n 3) r (refusal 45)
 
 -- The reply to a file by its verdict.
 abbrev pub byVerdict : Outcome → Reply → Reply
@@ -134,6 +142,8 @@ plainReply x margin =
     ofModel (x .model) (λ b. ofDelivery (x .delivery) (λ d.
     ofBlock hasLowers (shapeOf (statesOf b) (symbolsOf b) d) (λ h. value (marginOf b d))))
 plainReply x (live p z q) = ofModel (x .model) (λ b. atEntry b p z q (value (liveMark b p z q)))
+-- Request A.1: the chance within n steps over the runs of the model's rules, over 65,536 ^ n.
+plainReply x (within n p z q) = ofModel (x .model) (λ b. atEntry b p z q (toThree n (value (chance (rulesOf b) n p z q))))
 
 -- The replies of the plain pair to calls in the order of time, after the history es.
 unfoldable pub plainReplies : List Event → List Call → List Reply

@@ -5,8 +5,8 @@ use mathlib.Core.Option.{Option, none, some}
 use Rattle.calls.specs.Answers.{modelReply, deliveryReply, answerReply}
 use Rattle.register.specs.declared.Register.{Register}
 use Rattle.register.specs.Filing as Filing
-use Rattle.register.specs.Questions.{upperIn, lowerIn, meanIn, marginIn, liveIn}
-use Rattle.calls.specs.Calls.{Call, clear, fileModel, fileDelivery, upper, lower, meanSteps, margin, live, Reply, cleared}
+use Rattle.register.specs.Questions.{upperIn, lowerIn, meanIn, marginIn, liveIn, withinIn}
+use Rattle.calls.specs.Calls.{Call, clear, fileModel, fileDelivery, upper, lower, meanSteps, margin, live, within, Reply, cleared}
 use Rattle.history.specs.Plain.{Event, Pair}
 
 -- The register after a call, and the reply.
@@ -19,6 +19,7 @@ afterCall r (lower p z q) = r
 afterCall r (meanSteps p z) = r
 afterCall r margin = r
 afterCall r (live p z q) = r
+afterCall r (within n p z q) = r
 
 unfoldable pub replyOf : Register → Call → Reply
 replyOf r clear = cleared
@@ -29,6 +30,7 @@ replyOf r (lower p z q) = answerReply (lowerIn r p z q)
 replyOf r (meanSteps p z) = answerReply (meanIn r p z)
 replyOf r margin = answerReply (marginIn r)
 replyOf r (live p z q) = answerReply (liveIn r p z q)
+replyOf r (within n p z q) = answerReply (withinIn r n p z q)
 
 -- The register after a list of calls, latest first, from an empty one; its history; and its reply to one call more.
 unfoldable pub registerAfter : List Call → Register
