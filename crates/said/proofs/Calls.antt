@@ -11,12 +11,12 @@ use Rattle.spelling.specs.Contracts.{wordEnd, argumentsIn}
 use Rattle.spelling.proofs.Words.{same-is, pieces-split}
 use Rattle.spelling.proofs.Rest.{part-from}
 use Rattle.said.specs.declared.Said.{Said}
-use Rattle.calls.specs.declared.Question.the-variants.{Upper, Lower, MeanSteps, Margin, Live}
+use Rattle.calls.specs.declared.Question.the-variants.{Upper, Lower, MeanSteps, Margin, Live, Within}
 use Rattle.said.specs.declared.Change.the-variants.{Clear, Model, Delivery}
 use Rattle.said.specs.declared.Said.the-variants as Says
 use Rattle.said.specs.declared.Said.the-variants.{Nothing, Unclear}
-use Rattle.said.specs.Said.{isSilent, alone, onFile, onRow, onEntry, byWord, saidBy}
-use Rattle.said.specs.Said.{clearWord, modelWord, deliveryWord, upperWord, lowerWord, stepsWord, marginWord, liveWord}
+use Rattle.said.specs.Said.{isSilent, alone, onFile, onRow, onEntry, onSteps, byWord, saidBy}
+use Rattle.said.specs.Said.{clearWord, modelWord, deliveryWord, upperWord, lowerWord, stepsWord, marginWord, liveWord, withinWord}
 
 -- Each call by its word.
 module _ (w : List ℕ) (ws : List (List ℕ)) where
@@ -52,11 +52,16 @@ module _ (w : List ℕ) (ws : List (List ℕ)) where
   unfolding byWord same
   says-live e = rw (same-is w liveWord e)
 
+  pub says-within : same w withinWord ≡ true → byWord w ws ≡ onSteps Within ws
+  unfolding byWord same
+  says-within e = rw (same-is w withinWord e)
+
   -- Any other word.
   pub says-none : same w clearWord ≡ false → same w modelWord ≡ false → same w deliveryWord ≡ false → same w upperWord ≡ false
-      → same w lowerWord ≡ false → same w stepsWord ≡ false → same w marginWord ≡ false → same w liveWord ≡ false → byWord w ws ≡ Unclear
+      → same w lowerWord ≡ false → same w stepsWord ≡ false → same w marginWord ≡ false → same w liveWord ≡ false → same w withinWord ≡ false
+      → byWord w ws ≡ Unclear
   unfolding byWord
-  says-none a b c d e f g h = rw (a, b, c, d, e, f, g, h)
+  says-none a b c d e f g h i = rw (a, b, c, d, e, f, g, h, i)
 
 -- A line that gets no reply is empty, or its byte 0 is `#`.
 pub silent-none : (l : List ℕ) → length l ≡ 0 → isSilent l ≡ true

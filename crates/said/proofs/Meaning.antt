@@ -16,12 +16,12 @@ use Rattle.spelling.proofs.Words.{same-is, every-false, every-drop, plain-long,
 use Rattle.spelling.proofs.Rest.{name-of}
 use Rattle.said.specs.declared.Said.{Said}
 use Rattle.calls.specs.declared.Question.{Question}
-use Rattle.calls.specs.declared.Question.the-variants.{Upper, Lower, MeanSteps, Margin, Live}
+use Rattle.calls.specs.declared.Question.the-variants.{Upper, Lower, MeanSteps, Margin, Live, Within}
 use Rattle.said.specs.declared.Change.the-variants.{Clear, Model, Delivery}
 use Rattle.said.specs.declared.Said.the-variants as Says
 use Rattle.said.specs.declared.Said.the-variants.{Nothing, Unclear}
-use Rattle.said.specs.Said.{isSilent, alone, onFile, onRow, onEntry, byWord, saidBy}
-use Rattle.said.specs.Said.{clearWord, modelWord, deliveryWord, upperWord, lowerWord, stepsWord, marginWord, liveWord}
+use Rattle.said.specs.Said.{isSilent, alone, onFile, onRow, onEntry, onSteps, byWord, saidBy}
+use Rattle.said.specs.Said.{clearWord, modelWord, deliveryWord, upperWord, lowerWord, stepsWord, marginWord, liveWord, withinWord}
 use Rattle.said.specs.Contracts.{FileLine}
 use Rattle.said.proofs.Calls.{says-model, says-delivery, line-says, silent-says, odd-says}
 
@@ -101,6 +101,17 @@ module _ (f : Said → Bool) (unclear : f Unclear ≡ false) where
       (λ t. e (call (numberIn p) (numberIn z) (numberIn q))) unclear
   entry-down call (p ∷ z ∷ q ∷ w ∷ ws) e = unclear
 
+  steps-down : (call : ℕ → ℕ → ℕ → ℕ → Question) (ws : List (List ℕ)) → ((a : Question) → f (Says.Question a) ≡ false) → f (onSteps call ws) ≡ false
+  steps-down call [] e = unclear
+  steps-down call (n ∷ []) e = unclear
+  steps-down call (n ∷ p ∷ []) e = unclear
+  steps-down call (n ∷ p ∷ z ∷ []) e = unclear
+  steps-down call (n ∷ p ∷ z ∷ q ∷ []) e =
+      either (isNumber n && (isNumber p && (isNumber z && isNumber q)))
+      (Says.Question (call (numberIn n) (numberIn p) (numberIn z) (numberIn q))) Unclear
+      (λ t. e (call (numberIn n) (numberIn p) (numberIn z) (numberIn q))) unclear
+  steps-down call (n ∷ p ∷ z ∷ q ∷ w ∷ ws) e = unclear
+
   word-down : (w : List ℕ) (ws : List (List ℕ)) → f (Says.Change Clear) ≡ false → (same w modelWord ≡ true → f (Says.Change Model) ≡ false)
       → (same w deliveryWord ≡ true → f (Says.Change Delivery) ≡ false) → ((a : Question) → f (Says.Question a) ≡ false) → f (byWord w ws) ≡ false
   unfolding byWord
@@ -112,7 +123,8 @@ module _ (f : Said → Bool) (unclear : f Unclear ≡ false) where
       (either (same w lowerWord) _ _ (λ t. entry-down Lower ws question)
       (either (same w stepsWord) _ _ (λ t. row-down MeanSteps ws question)
       (either (same w marginWord) _ _ (λ t. alone-down (Says.Question Margin) ws (question Margin))
-      (either (same w liveWord) _ _ (λ t. entry-down Live ws question) unclear)))))))
+      (either (same w liveWord) _ _ (λ t. entry-down Live ws question)
+      (either (same w withinWord) _ _ (λ t. steps-down Within ws question) unclear))))))))
 
 -- The flags of a reply that is none, and of the filings.
 abbrev isNothing : Said → Bool

@@ -6,7 +6,7 @@ use lib.Dec.{eqb}
 use Rattle.text.specs.Reading.{pieces, numberIn}
 use Rattle.spelling.specs.Spelling.{same, isPlain, isNumber, isFile}
 use Rattle.calls.specs.declared.Question.{Question}
-use Rattle.calls.specs.declared.Question.the-variants.{Upper, Lower, MeanSteps, Margin, Live}
+use Rattle.calls.specs.declared.Question.the-variants.{Upper, Lower, MeanSteps, Margin, Live, Within}
 use Rattle.said.specs.declared.Change.the-variants.{Clear, Model, Delivery}
 use Rattle.said.specs.declared.Said.{Said}
 use Rattle.said.specs.declared.Said.the-variants as Says
@@ -43,9 +43,20 @@ onEntry ask (p ∷ z ∷ []) = Unclear
 onEntry ask (p ∷ z ∷ q ∷ []) = cond (isNumber p && (isNumber z && isNumber q)) (Says.Question (ask (numberIn p) (numberIn z) (numberIn q))) Unclear
 onEntry ask (p ∷ z ∷ q ∷ w ∷ ws) = Unclear
 
+-- Four numbers, n, p, Z and q, of a question on runs of at most n steps (request A.1).
+abbrev pub onSteps : (ℕ → ℕ → ℕ → ℕ → Question) → List (List ℕ) → Said
+onSteps ask [] = Unclear
+onSteps ask (n ∷ []) = Unclear
+onSteps ask (n ∷ p ∷ []) = Unclear
+onSteps ask (n ∷ p ∷ z ∷ []) = Unclear
+onSteps ask (n ∷ p ∷ z ∷ q ∷ []) =
+    cond (isNumber n && (isNumber p && (isNumber z && isNumber q)))
+    (Says.Question (ask (numberIn n) (numberIn p) (numberIn z) (numberIn q))) Unclear
+onSteps ask (n ∷ p ∷ z ∷ q ∷ w ∷ ws) = Unclear
+
 -- ---- the calls by their first words
 
--- "clear", "model", "delivery", "upper", "lower", "steps", "margin", "live".
+-- "clear", "model", "delivery", "upper", "lower", "steps", "margin", "live", "within".
 abbrev pub clearWord : List ℕ
 clearWord = 99 ∷ 108 ∷ 101 ∷ 97 ∷ 114 ∷ []
 
@@ -70,6 +81,9 @@ marginWord = 109 ∷ 97 ∷ 114 ∷ 103 ∷ 105 ∷ 110 ∷ []
 abbrev pub liveWord : List ℕ
 liveWord = 108 ∷ 105 ∷ 118 ∷ 101 ∷ []
 
+abbrev pub withinWord : List ℕ
+withinWord = 119 ∷ 105 ∷ 116 ∷ 104 ∷ 105 ∷ 110 ∷ []
+
 -- What a first word and the words after it say.
 unfoldable pub byWord : List ℕ → List (List ℕ) → Said
 byWord w ws =
@@ -80,7 +94,8 @@ byWord w ws =
     (cond (same w lowerWord) (onEntry Lower ws)
     (cond (same w stepsWord) (onRow MeanSteps ws)
     (cond (same w marginWord) (alone (Says.Question Margin) ws)
-    (cond (same w liveWord) (onEntry Live ws) Unclear)))))))
+    (cond (same w liveWord) (onEntry Live ws)
+    (cond (same w withinWord) (onSteps Within ws) Unclear))))))))
 
 -- What the words of a line say. (A line has at least one word, an empty one at least.)
 abbrev pub byWords : List (List ℕ) → Said

@@ -9,7 +9,7 @@ use spelling::is_word;
 use spelling::word_end;
 ghost use mathlib.Core.Path.{_≡_};
 ghost use Rattle.spelling.specs.Contracts.{argumentsIn};
-ghost use Rattle.said.specs.Said.{saidBy, isSilent, byWord, alone, onFile, onRow, onEntry};
+ghost use Rattle.said.specs.Said.{saidBy, isSilent, byWord, alone, onFile, onRow, onEntry, onSteps};
 
 // A call that may change the register. The file that a filing names is the second word of its line.
 pub enum Change {
@@ -57,6 +57,7 @@ fn upper(rest: &[u8]) -> Said
     match numbers_in(rest) {
         Numbers::Three { a, b, c } => Said::Question(Question::Upper { p: a, z: b, q: c }),
         Numbers::Two { .. } => Said::Unclear,
+        Numbers::Four { .. } => Said::Unclear,
         Numbers::Other => Said::Unclear,
     }
 }
@@ -68,6 +69,7 @@ fn lower(rest: &[u8]) -> Said
     match numbers_in(rest) {
         Numbers::Three { a, b, c } => Said::Question(Question::Lower { p: a, z: b, q: c }),
         Numbers::Two { .. } => Said::Unclear,
+        Numbers::Four { .. } => Said::Unclear,
         Numbers::Other => Said::Unclear,
     }
 }
@@ -79,6 +81,7 @@ fn live(rest: &[u8]) -> Said
     match numbers_in(rest) {
         Numbers::Three { a, b, c } => Said::Question(Question::Live { p: a, z: b, q: c }),
         Numbers::Two { .. } => Said::Unclear,
+        Numbers::Four { .. } => Said::Unclear,
         Numbers::Other => Said::Unclear,
     }
 }
@@ -89,6 +92,24 @@ fn steps(rest: &[u8]) -> Said
 {
     match numbers_in(rest) {
         Numbers::Two { a, b } => Said::Question(Question::MeanSteps { p: a, z: b }),
+        Numbers::Three { .. } => Said::Unclear,
+        Numbers::Four { .. } => Said::Unclear,
+        Numbers::Other => Said::Unclear,
+    }
+}
+
+// The chance of an entry within so many steps.
+fn within(rest: &[u8]) -> Said
+    ensures { λ r. ⌜ r ≡ onSteps Question.Within (argumentsIn (now (rest .entry))) ⌝ }
+{
+    match numbers_in(rest) {
+        Numbers::Four { a, b, c, d } => Said::Question(Question::Within {
+            steps: a,
+            p: b,
+            z: c,
+            q: d,
+        }),
+        Numbers::Two { .. } => Said::Unclear,
         Numbers::Three { .. } => Said::Unclear,
         Numbers::Other => Said::Unclear,
     }
@@ -121,6 +142,9 @@ fn by_word(word: &[u8], rest: &[u8]) -> Said
     }
     if is_word(word, b"live") {
         return live(rest);
+    }
+    if is_word(word, b"within") {
+        return within(rest);
     }
     Said::Unclear
 }

@@ -14,7 +14,7 @@ use Rattle.spelling.specs.declared.arguments.Numbers.the-variants.{Other
 use Rattle.spelling.specs.declared.Number.{Number}
 use Rattle.spelling.specs.declared.Number.the-variants.{Is, Not}
 use Rattle.spelling.specs.Spelling.{every, isDigit, isNumber, isName, isFile}
-use Rattle.spelling.specs.Contracts.{wordEnd, argumentsIn, numberAs, twoOf, threeOf, afterFirst, numbersOf}
+use Rattle.spelling.specs.Contracts.{wordEnd, argumentsIn, numberAs, twoOf, threeOf, fourOf, afterSecond, afterFirst, numbersOf}
 use Rattle.spelling.proofs.Words.{end-within, pieces-split, pieces-one, pieces-more, digits-end}
 
 -- ---- a file's name
@@ -77,39 +77,58 @@ spaced-not text h = go (every isDigit text) refl
     go true e = absurd (omega (arith, digits-end text e))
     go false e = rw (and-false (leb 1 (length text) && leb (length text) 9))
 
-three-not : (x y : Number) → threeOf x y Not ≡ Other
-three-not (Is a) (Is b) = refl
-three-not (Is a) Not = refl
-three-not Not y = refl
+four-not : (x y z : Number) → fourOf x y z Not ≡ Other
+four-not (Is a) (Is b) (Is c) = refl
+four-not (Is a) (Is b) Not = refl
+four-not (Is a) Not z = refl
+four-not Not y z = refl
 
-module _ (x : Number) (text : List ℕ) (e : ℕ) (end : e ≡ wordEnd text) where
-  after-one : e ≡ length text → afterFirst x (pieces 32 text) ≡ twoOf x (numberAs (take e text))
-  unfolding afterFirst
-  after-one all = rw (pieces-one text (sym end ∙ all), all, take-length)
+module _ (text : List ℕ) (e : ℕ) (end : e ≡ wordEnd text) where
+  -- A text that is one word, and one of more.
+  one-word : e ≡ length text → pieces 32 text ≡ take e text ∷ []
+  one-word all = rw (pieces-one text (sym end ∙ all), all, take-length)
 
-  after-two : e < length text → afterFirst x (pieces 32 text) ≡ threeOf x (numberAs (take e text)) (numberAs (drop (e + 1) text))
-  unfolding afterFirst
-  after-two h = rw (end, pieces-more text (rw end at h)) (go (eqb (wordEnd third) (length third)) refl)
-    where
-      third : List ℕ
-      third = drop (wordEnd text + 1) text
+  more-words : e < length text → pieces 32 text ≡ take e text ∷ pieces 32 (drop (e + 1) text)
+  more-words h = rw end (pieces-more text (rw end at h))
 
-      go : (t : Bool) → eqb (wordEnd third) (length third) ≡ t
-          → afterFirst x (take (wordEnd text) text ∷ pieces 32 third) ≡ threeOf x (numberAs (take (wordEnd text) text)) (numberAs third)
-      go true q = rw (pieces-one third (eqb-true (wordEnd third) (length third) q))
-      go false q =
-          let more : wordEnd third < length third = omega (arith, end-within third, eqb-false (wordEnd third) (length third) q) in
-          rw (pieces-more third more, pieces-split (drop (wordEnd third + 1) third), spaced-not third more) (sym (three-not x (numberAs (take (wordEnd text) text))))
+  -- After two numbers: one word that is the text, or a word and what stands after its space as another.
+  module _ (x y : Number) where
+    third-and-rest : e < length text
+        → afterSecond x y (pieces 32 text) ≡ fourOf x y (numberAs (take e text)) (numberAs (drop (e + 1) text))
+    unfolding afterSecond
+    third-and-rest h = rw (more-words h) (go (eqb (wordEnd fourth) (length fourth)) refl)
+      where
+        fourth : List ℕ
+        fourth = drop (e + 1) text
 
-  -- After a first number: one word that is the text, or a word and what stands after its space as another.
-  module _ {y : Number} (second : y ≡ numberAs (take e text)) where
+        go : (t : Bool) → eqb (wordEnd fourth) (length fourth) ≡ t
+            → afterSecond x y (take e text ∷ pieces 32 fourth) ≡ fourOf x y (numberAs (take e text)) (numberAs fourth)
+        go true q = rw (pieces-one fourth (eqb-true (wordEnd fourth) (length fourth) q))
+        go false q =
+            let more : wordEnd fourth < length fourth = omega (arith, end-within fourth, eqb-false (wordEnd fourth) (length fourth) q) in
+            rw (pieces-more fourth more, pieces-split (drop (wordEnd fourth + 1) fourth), spaced-not fourth more) (sym (four-not x y (numberAs (take e text))))
+
+    module _ {z : Number} (third : z ≡ numberAs (take e text)) where
+      pub third-last : e ≡ length text → {r : Numbers} → r ≡ threeOf x y z → r ≡ afterSecond x y (pieces 32 text)
+      unfolding afterSecond
+      third-last all made = made ∙ rw (third, one-word all)
+
+      pub fourth-last : e ≤ length text → (e ≡ length text → ⊥) → {w : Number} → w ≡ numberAs (take (length text - (e + 1)) (drop (e + 1) text))
+          → {r : Numbers} → r ≡ fourOf x y z w → r ≡ afterSecond x y (pieces 32 text)
+      fourth-last within n fourth made =
+          made ∙ rw (third, fourth, part-from (e + 1) text) (sym (third-and-rest (omega (arith, n))))
+
+  -- After a first number: one word that is the text, or a word and those after its space.
+  module _ (x : Number) {y : Number} (second : y ≡ numberAs (take e text)) where
     pub second-last : e ≡ length text → {r : Numbers} → r ≡ twoOf x y → r ≡ afterFirst x (pieces 32 text)
-    second-last all made = made ∙ rw second (sym (after-one all))
+    unfolding afterFirst
+    second-last all made = made ∙ rw (second, one-word all)
 
-    pub third-last : e ≤ length text → (e ≡ length text → ⊥) → {z : Number} → z ≡ numberAs (take (length text - (e + 1)) (drop (e + 1) text))
-        → {r : Numbers} → r ≡ threeOf x y z → r ≡ afterFirst x (pieces 32 text)
-    third-last within n third made =
-        made ∙ rw (second, third, part-from (e + 1) text) (sym (after-two (omega (arith, n))))
+    pub second-found : e ≤ length text → (e ≡ length text → ⊥) → {r : Numbers}
+        → r ≡ afterSecond x y (pieces 32 (take (length text - (e + 1)) (drop (e + 1) text))) → r ≡ afterFirst x (pieces 32 text)
+    unfolding afterFirst
+    second-found within n made =
+        made ∙ rw (second, part-from (e + 1) text, more-words (omega (arith, n)), pieces-split (drop (e + 1) text))
 
 -- The numbers of no words, of one, and of more.
 pub numbers-none : (rest : List ℕ) → length rest ≡ 0 → numbersOf (argumentsIn rest) ≡ Other

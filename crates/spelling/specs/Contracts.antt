@@ -5,7 +5,7 @@ use mathlib.Core.List.{List, [], _∷_}
 use lib.Dec.{eqb}
 use Rattle.text.specs.Reading.{pieces, numberIn}
 use Rattle.spelling.specs.declared.arguments.Numbers.{Numbers}
-use Rattle.spelling.specs.declared.arguments.Numbers.the-variants.{Two, Three, Other}
+use Rattle.spelling.specs.declared.arguments.Numbers.the-variants.{Two, Three, Four, Other}
 use Rattle.spelling.specs.declared.Number.{Number}
 use Rattle.spelling.specs.declared.Number.the-variants.{Is, Not}
 use Rattle.spelling.specs.Spelling.{isNumber}
@@ -35,12 +35,24 @@ threeOf (Is a) (Is b) Not = Other
 threeOf (Is a) Not z = Other
 threeOf Not y z = Other
 
--- A first number with the words after it, and all words, as numbers.
+abbrev pub fourOf : Number → Number → Number → Number → Numbers
+fourOf (Is a) (Is b) (Is c) (Is d) = Four a b c d
+fourOf (Is a) (Is b) (Is c) Not = Other
+fourOf (Is a) (Is b) Not w = Other
+fourOf (Is a) Not z w = Other
+fourOf Not y z w = Other
+
+-- Two numbers with the words after them, a first number with those after it, and all words, as numbers.
+unfoldable pub afterSecond : Number → Number → List (List ℕ) → Numbers
+afterSecond x y [] = Other
+afterSecond x y (c ∷ []) = threeOf x y (numberAs c)
+afterSecond x y (c ∷ d ∷ []) = fourOf x y (numberAs c) (numberAs d)
+afterSecond x y (c ∷ d ∷ w ∷ ws) = Other
+
 unfoldable pub afterFirst : Number → List (List ℕ) → Numbers
 afterFirst x [] = Other
 afterFirst x (b ∷ []) = twoOf x (numberAs b)
-afterFirst x (b ∷ c ∷ []) = threeOf x (numberAs b) (numberAs c)
-afterFirst x (b ∷ c ∷ w ∷ ws) = Other
+afterFirst x (b ∷ c ∷ ws) = afterSecond x (numberAs b) (c ∷ ws)
 
 unfoldable pub numbersOf : List (List ℕ) → Numbers
 numbersOf [] = Other

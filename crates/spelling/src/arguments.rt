@@ -6,15 +6,28 @@ use super::word_end;
 ghost use mathlib.Core.Path.{_≡_};
 ghost use Rattle.text.specs.Reading.{pieces};
 ghost use Rattle.spelling.specs.Spelling.{isFile};
-ghost use Rattle.spelling.specs.Contracts.{argumentsIn, numbersOf, afterFirst, twoOf, threeOf};
+ghost use Rattle.spelling.specs.Contracts.{argumentsIn, numbersOf, afterFirst, afterSecond, twoOf, threeOf, fourOf};
 
 // The most bytes of a file's name.
 const MOST_NAME: usize = 255;
 
-// Words that are two numbers, or three, or anything else.
+// Words that are two numbers, or three, or four, or anything else.
 pub enum Numbers {
-    Two { a: usize, b: usize },
-    Three { a: usize, b: usize, c: usize },
+    Two {
+        a: usize,
+        b: usize,
+    },
+    Three {
+        a: usize,
+        b: usize,
+        c: usize,
+    },
+    Four {
+        a: usize,
+        b: usize,
+        c: usize,
+        d: usize,
+    },
     Other,
 }
 
@@ -61,7 +74,39 @@ fn three(first: Number, second: Number, third: Number) -> Numbers
     Numbers::Three { a, b, c }
 }
 
-// The numbers of a first word and of the words in a text. A third word with a space in it is no number.
+// Four numbers.
+fn four(first: Number, second: Number, third: Number, fourth: Number) -> Numbers
+    ensures { λ r. ⌜ r ≡ fourOf first second third fourth ⌝ }
+{
+    let Number::Is(a) = first else {
+        return Numbers::Other;
+    };
+    let Number::Is(b) = second else {
+        return Numbers::Other;
+    };
+    let Number::Is(c) = third else {
+        return Numbers::Other;
+    };
+    let Number::Is(d) = fourth else {
+        return Numbers::Other;
+    };
+    Numbers::Four { a, b, c, d }
+}
+
+// The numbers of two words and of the words in a text after them. A fourth word with a space in it is no number.
+fn after_second(first: Number, second: Number, text: &[u8]) -> Numbers
+    ensures { λ r. ⌜ r ≡ afterSecond first second (pieces 32 (now (text .entry))) ⌝ }
+{
+    let end = word_end(text);
+    let third = number_of(&text[..end]);
+    if end == text.len() {
+        return three(first, second, third);
+    }
+    let start = end + 1;
+    four(first, second, third, number_of(&text[start..]))
+}
+
+// The numbers of a first word and of the words in a text.
 fn after_first(first: Number, text: &[u8]) -> Numbers
     ensures { λ r. ⌜ r ≡ afterFirst first (pieces 32 (now (text .entry))) ⌝ }
 {
@@ -71,7 +116,7 @@ fn after_first(first: Number, text: &[u8]) -> Numbers
         return two(first, second);
     }
     let start = end + 1;
-    three(first, second, number_of(&text[start..]))
+    after_second(first, second, &text[start..])
 }
 
 // The numbers of the words.

@@ -1,7 +1,7 @@
 -- `by_word`: the call is that of the first word that the word is, and none where it is none of them.
 use mathlib.Core.Path.{sym, _∙_}
 use borrow.Author.Needs.{needs}
-use Rattle.said.proofs.Calls.{says-clear, says-model, says-delivery, says-upper, says-lower, says-steps, says-margin, says-live, says-none}
+use Rattle.said.proofs.Calls.{says-clear, says-model, says-delivery, says-upper, says-lower, says-steps, says-margin, says-live, says-within, says-none}
 use Rattle.said.proofs.by_word.Statement.{statement}
 use Rattle.said.proofs.by_word.Tie as tie
 
@@ -101,9 +101,22 @@ live-requires c κs = search needs
 returns-8 : tie.Need-returns-8
 returns-8 c = c .live .ensures ∙ sym (says-live _ _ (sym (c .before .before .is-word8 .ensures) ∙ c .before .if8 .taken))
 
+slice-aggregate-is-word-9 : tie.Need-slice-aggregate-is-word-9
+slice-aggregate-is-word-9 c = search needs
+
+is-word-requires-9 : tie.Need-is-word-requires-9
+is-word-requires-9 c κs = search needs
+
+within-requires : tie.Need-within-requires
+within-requires c κs = search needs
+
 returns-9 : tie.Need-returns-9
-returns-9 c =
-    let t7 = c .before .before .before in
+returns-9 c = c .within .ensures ∙ sym (says-within _ _ (sym (c .before .before .is-word9 .ensures) ∙ c .before .if9 .taken))
+
+returns-10 : tie.Need-returns-10
+returns-10 c =
+    let t8 = c .before .before .before in
+    let t7 = t8 .before .before .before in
     let t6 = t7 .before .before .before in
     let t5 = t6 .before .before .before in
     let t4 = t5 .before .before .before in
@@ -119,7 +132,8 @@ returns-9 c =
     (sym (t5 .before .is-word5 .ensures) ∙ t5 .if5 .left)
     (sym (t6 .before .is-word6 .ensures) ∙ t6 .if6 .left)
     (sym (t7 .before .is-word7 .ensures) ∙ t7 .if7 .left)
-    (sym (c .before .is-word8 .ensures) ∙ c .if8 .left))
+    (sym (t8 .before .is-word8 .ensures) ∙ t8 .if8 .left)
+    (sym (c .before .is-word9 .ensures) ∙ c .if9 .left))
 
 pub by-word-spec : {M : Type 1} → statement M
 by-word-spec =
@@ -157,4 +171,8 @@ by-word-spec =
     is-word-requires-8
     live-requires
     returns-8
-    returns-9)
+    slice-aggregate-is-word-9
+    is-word-requires-9
+    within-requires
+    returns-9
+    returns-10)

@@ -16,6 +16,9 @@ enum-told c = search needs
 enum-told-2 : tie.Need-enum-told-2
 enum-told-2 c = search needs
 
+enum-told-3 : tie.Need-enum-told-3
+enum-told-3 c = search needs
+
 returns : tie.Need-returns
 returns c = entry-found _ _ _ (c .before .before .before .numbers-in .ensures) (c .before .a .given .1)
 
@@ -25,7 +28,10 @@ returns-2 c = entry-found _ _ _ (c .before .before .numbers-in .ensures) (c .enu
 returns-3 : tie.Need-returns-3
 returns-3 c = entry-found _ _ _ (c .before .before .numbers-in .ensures) (c .enum-told2 .given .1)
 
+returns-4 : tie.Need-returns-4
+returns-4 c = entry-found _ _ _ (c .before .before .numbers-in .ensures) (c .enum-told3 .given .1)
+
 pub live-spec : {M : Type 1} → statement M
 live-spec =
     tie.close
-    (tie.spec numbers-in-requires enum-known-a enum-told enum-told-2 returns returns-2 returns-3)
+    (tie.spec numbers-in-requires enum-known-a enum-told enum-told-2 enum-told-3 returns returns-2 returns-3 returns-4)

@@ -1,8 +1,8 @@
--- `after_first`: the second word ends where the text does, and is the last, or the third is all that stands after its space.
+-- `after_first`: the second word ends where the text does, and is the last, or the others stand after its space.
 use mathlib.Core.Path.{sym}
 use lib.Seq.{length-take-le}
 use borrow.Author.Needs.{needs}
-use Rattle.spelling.proofs.Rest.{second-last, third-last}
+use Rattle.spelling.proofs.Rest.{second-last, second-found}
 use Rattle.spelling.proofs.arguments.after_first.Statement.{statement}
 use Rattle.spelling.proofs.arguments.after_first.Tie as tie
 
@@ -21,31 +21,28 @@ two-requires c κs = search needs
 returns : tie.Need-returns
 returns c =
     let second = c .before .before in
-    second-last _ _ _ (second .before .before .word-end .ensures .0) (second .number-of .ensures) (c .before .if1 .taken) (c .two .ensures)
+    second-last _ _ (second .before .before .word-end .ensures .0) _ (second .number-of .ensures) (c .before .if1 .taken) (c .two .ensures)
 
 add-start : tie.Need-add-start
 add-start c = search needs
 
-sub-number-of : tie.Need-sub-number-of
-sub-number-of c = search needs
+sub-after-second : tie.Need-sub-after-second
+sub-after-second c = search needs
 
-part-number-of-start : tie.Need-part-number-of-start
-part-number-of-start c = search needs
+part-after-second-start : tie.Need-part-after-second-start
+part-after-second-start c = search needs
 
-part-number-of-end : tie.Need-part-number-of-end
-part-number-of-end c = search needs
+part-after-second-end : tie.Need-part-after-second-end
+part-after-second-end c = search needs
 
-number-of-requires-2 : tie.Need-number-of-requires-2
-number-of-requires-2 c κs = search needs
-
-three-requires : tie.Need-three-requires
-three-requires c κs = search needs
+after-second-requires : tie.Need-after-second-requires
+after-second-requires c κs = search needs
 
 returns-2 : tie.Need-returns-2
 returns-2 c =
-    let more = c .before .before .before in
+    let more = c .before .before in
     let end = more .before .before .before .word-end .ensures in
-    third-last _ _ _ (end .0) (more .before .number-of .ensures) (end .1) (more .if1 .left) (c .before .number-of2 .ensures) (c .three .ensures)
+    second-found _ _ (end .0) _ (more .before .number-of .ensures) (end .1) (more .if1 .left) (c .after-second .ensures)
 
 pub after-first-spec : {M : Type 1} → statement M
 after-first-spec =
@@ -57,9 +54,8 @@ after-first-spec =
     two-requires
     returns
     add-start
-    sub-number-of
-    part-number-of-start
-    part-number-of-end
-    number-of-requires-2
-    three-requires
+    sub-after-second
+    part-after-second-start
+    part-after-second-end
+    after-second-requires
     returns-2)
