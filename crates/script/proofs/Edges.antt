@@ -1,12 +1,14 @@
 -- The scripts print what the tables have, computed.
 use Prim.Native.Nat.{ℕ}
-use mathlib.Core.List.{List, [], map}
+use mathlib.Core.List.{List, [], map, flatMap}
 use mathlib.Core.Path.{_≡_, refl}
 use Rattle.walks.specs.Lists.{listTo, each}
 use Rattle.outcome.specs.Tests.{first}
 use Rattle.words.specs.Words.{wordAt}
 use Rattle.walks.specs.Sums.{sign, sum, sumTo, leastTo, allTo, greatestTo}
 use Rattle.ppda.specs.Rules.{fits, overRow}
+use Rattle.ppda.specs.Runs.{after, lists, weigh, overRuns, overRunsWithin}
+use Rattle.ppda.specs.Chances.{chanceFrom}
 use Rattle.ppda.specs.Equations.{f, meanSide}
 use Rattle.ppda.specs.Live.{mark, isLive, alive}
 use Rattle.ppda.specs.Margin.{share, shareAt, margin}
@@ -34,7 +36,7 @@ use Rattle.script.specs.Script.{printedAfter}
 use Rattle.script.specs.Edges.{Printed, shortScript, wScript, unreadScript, oddScript, readings, readingOf, readsOf}
 
 pub scripts-printed : Printed [] × Printed shortScript × Printed wScript × ((f : List ℕ) → Printed (unreadScript f)) × Printed oddScript
-unfolding printedAfter saidBy byWord isPlain isSilent isNumber isName every same pieces numberAfter numberIn decimal digitsTo first each wordAt sign sum sumTo leastTo fits overRow f meanSide mark isLive alive share shareAt margin recordsOf field weight greatestTo statesOf symbolsOf ruleOf listTo rulesOf rowOf rowSum wholeRecords rangeAt unusedAt weightAt ascends recordTests rowTests rowsTests modelTests modelVerdict byteOf valueAt meansFrom recordsIn longAs lowersOrMeans shapeOf uppersOf lowersOf meansOf eachEntry eachRow isDue inRange layout.recordTests deadTest upperTest belowTest lowerTest meanTest upperRecords lowerRecords meanRecords deadTests upperTests belowTests lowerTests meanTests layoutTests numberTests shapedTests deliveryTests verdict.verdict marginOf liveMark allTo lastModel lastDelivery sameUppers plainReply
+unfolding chanceFrom overRunsWithin overRuns lists flatMap after weigh printedAfter saidBy byWord isPlain isSilent isNumber isName every same pieces numberAfter numberIn decimal digitsTo first each wordAt sign sum sumTo leastTo fits overRow f meanSide mark isLive alive share shareAt margin recordsOf field weight greatestTo statesOf symbolsOf ruleOf listTo rulesOf rowOf rowSum wholeRecords rangeAt unusedAt weightAt ascends recordTests rowTests rowsTests modelTests modelVerdict byteOf valueAt meansFrom recordsIn longAs lowersOrMeans shapeOf uppersOf lowersOf meansOf eachEntry eachRow isDue inRange layout.recordTests deadTest upperTest belowTest lowerTest meanTest upperRecords lowerRecords meanRecords deadTests upperTests belowTests lowerTests meanTests layoutTests numberTests shapedTests deliveryTests verdict.verdict marginOf liveMark allTo lastModel lastDelivery sameUppers plainReply
 scripts-printed = (refl, refl, refl, λ f. refl, refl)
 
 -- Which files are read.

@@ -9,10 +9,11 @@ use Rattle.calls.specs.declared.Question.{Question}
 use Rattle.calls.specs.declared.Question.the-variants as Asks
 use Rattle.calls.specs.Calls.{fileModel, fileDelivery, refusal}
 use Rattle.calls.specs.Answers.{answerReply, questionCall}
+use Rattle.questions.specs.declared.View.{View}
 use Rattle.questions.specs.Questions.{answerFrom}
 use Rattle.register.specs.declared.Register.{Register}
 use Rattle.register.specs.Filing as Filing
-use Rattle.register.specs.Questions.{hasModel, viewOf, upperIn, lowerIn, meanIn, marginIn, liveIn}
+use Rattle.register.specs.Questions.{hasModel, shownOf, listsOf, viewOf, upperIn, lowerIn, meanIn, marginIn, liveIn, withinIn}
 use Rattle.filing.specs.Outcomes.{modelOutcome, deliveryOutcome}
 use Rattle.history.specs.Run.{afterCall, replyOf}
 use Rattle.history.proofs.Refusals.{refused-keeps}
@@ -52,7 +53,7 @@ module _ (r : Register) where
   changed-text (Says.Change c) f e = made-text c f
   changed-text (Says.Question a) f e = absurd (false≢true e)
 
-  -- What changes nothing, whatever its file: the text from the register's own view.
+  -- What changes nothing, whatever its file: the text from a view of the register and its lists.
   asked-register : (a : Question) → r ≡ afterCall r (questionCall a)
   unfolding afterCall
   asked-register (Asks.Upper p z q) = refl
@@ -60,15 +61,17 @@ module _ (r : Register) where
   asked-register (Asks.MeanSteps p z) = refl
   asked-register Asks.Margin = refl
   asked-register (Asks.Live p z q) = refl
+  asked-register (Asks.Within n p z q) = refl
 
   asked-text : (a : Question)
-      → answerReply (answerFrom (viewOf r .shown) (viewOf r .marks) (viewOf r .uppers) (viewOf r .lowers) (viewOf r .means) a) ≡ replyOf r (questionCall a)
-  unfolding replyOf upperIn lowerIn meanIn marginIn liveIn
+      → answerReply (answerFrom (shownOf r) (r .model .bytes) (listsOf r) a) ≡ replyOf r (questionCall a)
+  unfolding replyOf upperIn lowerIn meanIn marginIn liveIn withinIn
   asked-text (Asks.Upper p z q) = refl
   asked-text (Asks.Lower p z q) = refl
   asked-text (Asks.MeanSteps p z) = refl
   asked-text Asks.Margin = refl
   asked-text (Asks.Live p z q) = refl
+  asked-text (Asks.Within n p z q) = refl
 
   pub kept-register : (s : Said) (f : List ℕ) → mayChange s ≡ false → r ≡ registerBy r (askedBy s f)
   kept-register Says.Nothing f e = refl
@@ -76,12 +79,15 @@ module _ (r : Register) where
   kept-register (Says.Change c) f e = absurd (false≢true (sym e))
   kept-register (Says.Question a) f e = asked-register a
 
-  pub kept-text : (s : Said) (f : List ℕ) → mayChange s ≡ false
-      → textOf (answeredFrom (viewOf r .shown) (viewOf r .marks) (viewOf r .uppers) (viewOf r .lowers) (viewOf r .means) s) ≡ replyBy r (askedBy s f)
-  kept-text Says.Nothing f e = refl
-  kept-text Says.Unclear f e = refl
-  kept-text (Says.Change c) f e = absurd (false≢true (sym e))
-  kept-text (Says.Question a) f e = ap replyLine (asked-text a)
+  kept-shown : (s : Said) (f : List ℕ) → mayChange s ≡ false → textOf (answeredFrom (shownOf r) (r .model .bytes) (listsOf r) s) ≡ replyBy r (askedBy s f)
+  kept-shown Says.Nothing f e = refl
+  kept-shown Says.Unclear f e = refl
+  kept-shown (Says.Change c) f e = absurd (false≢true (sym e))
+  kept-shown (Says.Question a) f e = ap replyLine (asked-text a)
+
+  pub kept-text : {v : View} {l : List (List ℕ)} (s : Said) (f : List ℕ) → v ≡ viewOf r → l ≡ listsOf r → mayChange s ≡ false
+      → textOf (answeredFrom (v .shown) (v .bytes) l s) ≡ replyBy r (askedBy s f)
+  kept-text s f seen listed e = rw (seen, listed) (kept-shown s f e)
 
   -- The register's own reasons: 41 for a model where one is held, 40 for a delivery where none is, whatever the file. Nothing changes then.
   pub model-unread : (f : List ℕ) → hasModel r ≡ true → replyOf r (fileModel f) ≡ refusal 41

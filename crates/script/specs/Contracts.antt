@@ -4,6 +4,7 @@ use mathlib.Core.Bool.{Bool, true, false}
 use mathlib.Core.List.{List}
 use Rattle.questions.specs.declared.Shown.{Shown}
 use Rattle.questions.specs.Questions.{answerFrom}
+use Rattle.questions.specs.Contracts.{isShort}
 use Rattle.register.specs.declared.Register.{Register}
 use Rattle.register.specs.Filing as Filing
 use Rattle.said.specs.declared.Change.{Change}
@@ -21,12 +22,19 @@ mayChange Says.Unclear = false
 mayChange (Says.Change c) = true
 mayChange (Says.Question a) = false
 
--- The response to what changes nothing, from what is held and its lists of numbers; silence for the rest.
-abbrev pub answeredFrom : Shown → (marks uppers lowers means : List ℕ) → Said → Response
-answeredFrom h a u l m Says.Nothing = Silence
-answeredFrom h a u l m Says.Unclear = Unclear
-answeredFrom h a u l m (Says.Change c) = Silence
-answeredFrom h a u l m (Says.Question k) = Answered (answerFrom h a u l m k)
+-- Whether what is said asks for a short run.
+abbrev pub asksShort : Said → Bool
+asksShort Says.Nothing = false
+asksShort Says.Unclear = false
+asksShort (Says.Change c) = false
+asksShort (Says.Question a) = isShort a
+
+-- The response to what changes nothing, from what is held, the model's bytes and the lists of numbers; silence for the rest.
+abbrev pub answeredFrom : Shown → List ℕ → List (List ℕ) → Said → Response
+answeredFrom h b l Says.Nothing = Silence
+answeredFrom h b l Says.Unclear = Unclear
+answeredFrom h b l (Says.Change c) = Silence
+answeredFrom h b l (Says.Question k) = Answered (answerFrom h b l k)
 
 abbrev pub responded : Register → Response → Responded
 responded r x = record { register = r; response = x }

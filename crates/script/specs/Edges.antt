@@ -55,12 +55,12 @@ shortScript =
     ∷ row (108 ∷ 105 ∷ 118 ∷ 101 ∷ 32 ∷ 48 ∷ 32 ∷ 48 ∷ 32 ∷ 48 ∷ 10 ∷ []) [] (118 ∷ 97 ∷ 108 ∷ 117 ∷ 101 ∷ 32 ∷ 49 ∷ 10 ∷ [])
     ∷ []
 
--- W: a filing and its questions; a delivery filed twice is known; a refused filing, an unclear line, a comment and an empty line change nothing; another delivery
+-- W: a filing and its questions, those on short runs among them; a delivery filed twice is known; a refused filing, an unclear line, a comment and an empty line change nothing; another delivery
 -- is new, and its numbers are shown from then on; clearing. The last line has its end.
 abbrev pub wScript : List Row
 wScript =
-    -- # W and five questions: no reply
-    row (35 ∷ 32 ∷ 87 ∷ 32 ∷ 97 ∷ 110 ∷ 100 ∷ 32 ∷ 102 ∷ 105 ∷ 118 ∷ 101 ∷ 32 ∷ 113 ∷ 117 ∷ 101 ∷ 115 ∷ 116 ∷ 105 ∷ 111 ∷ 110 ∷ 115 ∷ 10 ∷ []) [] []
+    -- # W and its questions: no reply
+    row (35 ∷ 32 ∷ 87 ∷ 32 ∷ 97 ∷ 110 ∷ 100 ∷ 32 ∷ 105 ∷ 116 ∷ 115 ∷ 32 ∷ 113 ∷ 117 ∷ 101 ∷ 115 ∷ 116 ∷ 105 ∷ 111 ∷ 110 ∷ 115 ∷ 10 ∷ []) [] []
     -- model w: accepted
     ∷ row (109 ∷ 111 ∷ 100 ∷ 101 ∷ 108 ∷ 32 ∷ 119 ∷ 10 ∷ []) wFile (97 ∷ 99 ∷ 99 ∷ 101 ∷ 112 ∷ 116 ∷ 101 ∷ 100 ∷ 10 ∷ [])
     -- delivery d: new
@@ -83,6 +83,18 @@ wScript =
     ∷ row (108 ∷ 105 ∷ 118 ∷ 101 ∷ 32 ∷ 49 ∷ 32 ∷ 48 ∷ 32 ∷ 49 ∷ 10 ∷ []) [] (118 ∷ 97 ∷ 108 ∷ 117 ∷ 101 ∷ 32 ∷ 49 ∷ 10 ∷ [])
     -- live 1 0 0: value 0
     ∷ row (108 ∷ 105 ∷ 118 ∷ 101 ∷ 32 ∷ 49 ∷ 32 ∷ 48 ∷ 32 ∷ 48 ∷ 10 ∷ []) [] (118 ∷ 97 ∷ 108 ∷ 117 ∷ 101 ∷ 32 ∷ 48 ∷ 10 ∷ [])
+    -- within 3 0 0 0: value 158329674399744
+    ∷ row (119 ∷ 105 ∷ 116 ∷ 104 ∷ 105 ∷ 110 ∷ 32 ∷ 51 ∷ 32 ∷ 48 ∷ 32 ∷ 48 ∷ 32 ∷ 48 ∷ 10 ∷ []) [] (118 ∷ 97 ∷ 108 ∷ 117 ∷ 101 ∷ 32 ∷ 49 ∷ 53 ∷ 56 ∷ 51 ∷ 50 ∷ 57 ∷ 54 ∷ 55 ∷ 52 ∷ 51 ∷ 57 ∷ 57 ∷ 55 ∷ 52 ∷ 52 ∷ 10 ∷ [])
+    -- within 3 0 0 1: value 96757023244288
+    ∷ row (119 ∷ 105 ∷ 116 ∷ 104 ∷ 105 ∷ 110 ∷ 32 ∷ 51 ∷ 32 ∷ 48 ∷ 32 ∷ 48 ∷ 32 ∷ 49 ∷ 10 ∷ []) [] (118 ∷ 97 ∷ 108 ∷ 117 ∷ 101 ∷ 32 ∷ 57 ∷ 54 ∷ 55 ∷ 53 ∷ 55 ∷ 48 ∷ 50 ∷ 51 ∷ 50 ∷ 52 ∷ 52 ∷ 50 ∷ 56 ∷ 56 ∷ 10 ∷ [])
+    -- within 3 1 0 0: value 0
+    ∷ row (119 ∷ 105 ∷ 116 ∷ 104 ∷ 105 ∷ 110 ∷ 32 ∷ 51 ∷ 32 ∷ 49 ∷ 32 ∷ 48 ∷ 32 ∷ 48 ∷ 10 ∷ []) [] (118 ∷ 97 ∷ 108 ∷ 117 ∷ 101 ∷ 32 ∷ 48 ∷ 10 ∷ [])
+    -- within 0 0 0 0: value 0
+    ∷ row (119 ∷ 105 ∷ 116 ∷ 104 ∷ 105 ∷ 110 ∷ 32 ∷ 48 ∷ 32 ∷ 48 ∷ 32 ∷ 48 ∷ 32 ∷ 48 ∷ 10 ∷ []) [] (118 ∷ 97 ∷ 108 ∷ 117 ∷ 101 ∷ 32 ∷ 48 ∷ 10 ∷ [])
+    -- within 4 0 0 2: refused 44 0 0
+    ∷ row (119 ∷ 105 ∷ 116 ∷ 104 ∷ 105 ∷ 110 ∷ 32 ∷ 52 ∷ 32 ∷ 48 ∷ 32 ∷ 48 ∷ 32 ∷ 50 ∷ 10 ∷ []) [] (114 ∷ 101 ∷ 102 ∷ 117 ∷ 115 ∷ 101 ∷ 100 ∷ 32 ∷ 52 ∷ 52 ∷ 32 ∷ 48 ∷ 32 ∷ 48 ∷ 10 ∷ [])
+    -- within 4 0 0 0: refused 45 0 0
+    ∷ row (119 ∷ 105 ∷ 116 ∷ 104 ∷ 105 ∷ 110 ∷ 32 ∷ 52 ∷ 32 ∷ 48 ∷ 32 ∷ 48 ∷ 32 ∷ 48 ∷ 10 ∷ []) [] (114 ∷ 101 ∷ 102 ∷ 117 ∷ 115 ∷ 101 ∷ 100 ∷ 32 ∷ 52 ∷ 53 ∷ 32 ∷ 48 ∷ 32 ∷ 48 ∷ 10 ∷ [])
     -- delivery d: known
     ∷ row (100 ∷ 101 ∷ 108 ∷ 105 ∷ 118 ∷ 101 ∷ 114 ∷ 121 ∷ 32 ∷ 100 ∷ 10 ∷ []) (wDelivery 524288 512) (107 ∷ 110 ∷ 111 ∷ 119 ∷ 110 ∷ 10 ∷ [])
     -- an empty line: no reply

@@ -1,17 +1,22 @@
 // What a register responds to a line of a script.
 
+use model::format::MOST_BYTES;
 use model::format::MOST_ENTRIES;
+use model::sizes::Sizes;
+use questions::LISTS;
 use questions::Shown;
 use register::Register;
 use replies::Response;
+use rows::STARTS;
 use said::Change;
 use said::Said;
 ghost use mathlib.Core.Path.{_≡_};
+ghost use Rattle.questions.specs.Contracts.{IfNeeded};
 ghost use Rattle.register.specs.Filing.{cleared};
 ghost use Rattle.replies.specs.declared.Response.the-variants.{Silence, Cleared};
 ghost use Rattle.said.specs.declared.Change.the-variants.{Model, Delivery};
 ghost use Rattle.script.specs.Script.{changeReads, readsFile};
-ghost use Rattle.script.specs.Contracts.{mayChange, answeredFrom, responded, changeMade, changedBy};
+ghost use Rattle.script.specs.Contracts.{mayChange, asksShort, answeredFrom, responded, changeMade, changedBy};
 
 // The register after a line, and the response.
 pub struct Responded {
@@ -54,23 +59,36 @@ pub fn reads_file(held: bool, said: Said) -> bool
     }
 }
 
-// The response to a line that changes nothing, from what is held and its lists of numbers.
+// Whether a line asks for a short run, so that it needs the index of the model's bytes.
+pub fn asks_short(said: Said) -> bool
+    ensures { λ r. ⌜ r ≡ asksShort said ⌝ }
+{
+    match said {
+        Said::Nothing => false,
+        Said::Unclear => false,
+        Said::Change(_) => false,
+        Said::Question(question) => questions::is_short(question),
+    }
+}
+
+// The response to a line that changes nothing, from what is held, the model's bytes with their index, and the lists of numbers.
 pub fn answer<'a>(
     held: Shown,
-    marks: &'a [u32; MOST_ENTRIES],
-    uppers: &'a [u32; MOST_ENTRIES],
-    lowers: &'a [u32; MOST_ENTRIES],
-    means: &'a [u32; MOST_ENTRIES],
+    sizes: Sizes,
+    bytes: &'a [u8; MOST_BYTES],
+    starts: &'a [u16; STARTS],
+    lists: &'a [[u32; MOST_ENTRIES]; LISTS],
     said: Said,
 ) -> Response
-    ensures { λ r. ⌜ r ≡ answeredFrom held (now (marks .entry)) (now (uppers .entry)) (now (lowers .entry)) (now (means .entry)) said ⌝ }
+    requires { ⌜ IfNeeded (asksShort said) (held .length) sizes (now bytes) (now starts) ⌝ }
+    ensures { λ r. ⌜ r ≡ answeredFrom held (now (bytes .entry)) (now (lists .entry)) said ⌝ }
 {
     match said {
         Said::Nothing => Response::Silence,
         Said::Unclear => Response::Unclear,
         Said::Change(_) => Response::Silence,
         Said::Question(question) => {
-            Response::Answered(questions::answer(held, marks, uppers, lowers, means, question))
+            Response::Answered(questions::answer(held, sizes, bytes, starts, lists, question))
         }
     }
 }

@@ -1,14 +1,18 @@
 // A desk: a register that takes its calls from lines of text. Input comes in pieces of any size, and lines go across pieces.
 
 use questions::View;
+use questions::index::find_if;
+use questions::index::none;
 use register::Register;
 use replies::REPLY_ROOM;
 use replies::put_response;
+use rows::STARTS;
 use said::Change;
 use said::Said;
 use said::said_by;
 use script::Responded;
 use script::answer;
+use script::asks_short;
 use script::change;
 use script::may_change;
 use script::reads_file;
@@ -130,13 +134,16 @@ fn finished(
 }
 
 // Takes a piece of input, as much of it as there is surely room for the replies to, and prints these from the start of `out` on. Questions are answered
-// from a view v of the register, which is taken anew after each change.
+// from a view v of the register and its lists of numbers, which are taken anew after each change; what short runs need of the model is found when one is first asked for.
 pub fn serve(desk: Desk, piece: &[u8], out: &mut [u8]) -> Served
     ensures { λ r. ⌜ Took desk (now (piece .entry)) (now (out .entry)) (now (out .exit)) r ⌝ }
 {
     let taken = least(piece.len(), out.len() / REPLY_ROOM);
     let mut register = desk.register;
     let mut v = register.view();
+    let mut lists = register.lists();
+    let mut sizes = none();
+    let mut starts = [0u16; STARTS];
     let mut line = desk.line;
     let mut kept = least(desk.kept, KEPT);
     let mut at = 0;
@@ -152,17 +159,23 @@ pub fn serve(desk: Desk, piece: &[u8], out: &mut [u8]) -> Served
         if may_change(said) {
             let changed = perform(register, said, &line[..kept]);
             kept = 0;
-            let after = changed.register;
-            register = after;
-            let seen = register.view();
-            v = seen;
+            register = changed.register;
+            v = register.view();
+            lists = register.lists();
+            sizes = none();
             let response = changed.response;
             at = put_response(out, at, response);
             continue;
         }
         kept = 0;
-        let shown = v.shown;
-        let response = answer(shown, &v.marks, &v.uppers, &v.lowers, &v.means, said);
+        sizes = find_if(
+            asks_short(said),
+            sizes,
+            &v.bytes,
+            v.shown.length,
+            &mut starts,
+        );
+        let response = answer(v.shown, sizes, &v.bytes, &starts, &lists, said);
         at = put_response(out, at, response);
     }
     finished(register, line, kept, taken, at)

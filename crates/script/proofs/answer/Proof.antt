@@ -1,7 +1,8 @@
 -- `answer`: of a question, its answer; of anything else, silence or that it is unclear.
-use mathlib.Core.Path.{ap}
+use mathlib.Core.Path.{ap, _∙_}
 use Rattle.replies.specs.declared.Response.the-variants.{Answered}
 use borrow.Author.Needs.{needs}
+use Rattle.script.specs.Contracts.{asksShort}
 use Rattle.script.proofs.answer.Statement.{statement}
 use Rattle.script.proofs.answer.Tie as tie
 
@@ -18,7 +19,7 @@ enum-known-said : tie.Need-enum-known-said
 enum-known-said c = search needs
 
 answer-requires : tie.Need-answer-requires
-answer-requires c κs = search needs
+answer-requires c κs = λ needed. c .before .before .before .pre (ap asksShort (c .before .said .given .1) ∙ needed)
 
 returns : tie.Need-returns
 returns c = rw (c .enum-told .given .1)
