@@ -1,5 +1,5 @@
-/* Times the desk against the desk in plain C on the same script, after checking that both print the same. Arguments: a folder with model.tab and
-   bounds.cer, the desk, the plain desk. A run is a process from its start to its end that reads a script from a file; the time of a script with no
+/* Times the desk against the desk in plain C on the same script, after checking that both print the same. Arguments: a folder with model.tab,
+   bounds.cer and dearest.tab, the desk, the plain desk. A run is a process from its start to its end that reads a script from a file; the time of a script with no
    lines after the filings is taken off, so that what is left is the lines' own. */
 #define _GNU_SOURCE
 #include <fcntl.h>
@@ -13,12 +13,29 @@
 #include <time.h>
 #include <unistd.h>
 
-enum { LINES = 100000, ROUNDS = 201, STATES = 8, SYMBOLS = 16 };
+enum { LINES = 100000, ORDINARY_LINES = 10000, DEAREST_LINES = 500, ROUNDS = 201, SHORT_ROUNDS = 21, STATES = 8, SYMBOLS = 16 };
 enum { PLAIN, DESK, SIDES };
-enum { FILINGS, QUESTIONS, UNCLEAR, COMMENTS, SCRIPTS };
+enum { FILINGS, QUESTIONS, UNCLEAR, COMMENTS, ORDINARY, DEAREST_FILED, DEAREST, SCRIPTS };
 
-static const char *const NAMES[SCRIPTS] = {"filings", "questions", "unclear", "comments"};
-static const char *const TITLES[SCRIPTS] = {"start and filings", "questions", "the same lines, unclear", "the same lines, comments"};
+/* A script: what it files, the script of the filings alone, how many lines follow, whether each gets a value, and how often it is run. */
+struct script {
+    const char *name, *title, *filings;
+    int filed_by, lines;
+    bool has_values;
+    int rounds;
+};
+
+#define BOTH "model model.tab\ndelivery bounds.cer\n"
+
+static const struct script ALL[SCRIPTS] = {
+    [FILINGS] = {"filings", "start and filings", BOTH, FILINGS, 0, false, ROUNDS},
+    [QUESTIONS] = {"questions", "questions", BOTH, FILINGS, LINES, true, ROUNDS},
+    [UNCLEAR] = {"unclear", "the same lines, unclear", BOTH, FILINGS, LINES, false, ROUNDS},
+    [COMMENTS] = {"comments", "the same lines, comments", BOTH, FILINGS, LINES, false, ROUNDS},
+    [ORDINARY] = {"ordinary", "within 3, any entry", BOTH, FILINGS, ORDINARY_LINES, true, SHORT_ROUNDS},
+    [DEAREST_FILED] = {"dearest-filed", "start, the dearest model", "model dearest.tab\n", DEAREST_FILED, 0, false, SHORT_ROUNDS},
+    [DEAREST] = {"dearest", "within 3, dearest entry", "model dearest.tab\n", DEAREST_FILED, DEAREST_LINES, true, SHORT_ROUNDS},
+};
 extern char **environ;
 
 static void die(const char *what)
@@ -52,16 +69,17 @@ static void draw_question(char *line, size_t room)
         snprintf(line, room, "margin");
 }
 
-/* The script of each kind: the filings, and then the same questions; as they are, as lines that are no call, as comments. */
+/* The script of each kind: the filings, and then the same questions; as they are, as lines that are no call, as comments. Then questions on short runs: of any
+   entry, and of the dearest row. */
 static void write_scripts(void)
 {
     FILE *out[SCRIPTS];
     char line[64];
     for (int k = 0; k < SCRIPTS; k++) {
-        out[k] = fopen(NAMES[k], "wb");
+        out[k] = fopen(ALL[k].name, "wb");
         if (!out[k])
             die("a script is not written");
-        fputs("model model.tab\ndelivery bounds.cer\n", out[k]);
+        fputs(ALL[k].filings, out[k]);
     }
     for (int i = 0; i < LINES; i++) {
         draw_question(line, sizeof line);
@@ -69,6 +87,12 @@ static void write_scripts(void)
         fprintf(out[UNCLEAR], "U%s\n", line + 1);
         fprintf(out[COMMENTS], "#%s\n", line + 1);
     }
+    for (int i = 0; i < ORDINARY_LINES; i++) {
+        uint32_t p = drawn(STATES), z = drawn(SYMBOLS), q = drawn(STATES);
+        fprintf(out[ORDINARY], "within 3 %u %u %u\n", p, z, q);
+    }
+    for (int i = 0; i < DEAREST_LINES; i++)
+        fputs("within 3 0 0 0\n", out[DEAREST]);
     for (int k = 0; k < SCRIPTS; k++)
         if (fclose(out[k]) != 0)
             die("a script is not written");
@@ -117,19 +141,21 @@ static char *whole(const char *name, size_t *len)
 }
 
 /* Both print the same: for questions, after the filings, a value a line. */
-static void same_output(const char *const *programs, int script)
+static void same_output(const char *const *programs, const struct script *script)
 {
-    size_t len[SIDES], values = 0;
+    size_t len[SIDES];
+    int values = 0;
     char *bytes[SIDES];
     for (int k = 0; k < SIDES; k++) {
-        run(programs[k], NAMES[script], "printed");
+        run(programs[k], script->name, "printed");
         bytes[k] = whole("printed", &len[k]);
     }
     if (len[PLAIN] != len[DESK] || memcmp(bytes[PLAIN], bytes[DESK], len[PLAIN]) != 0)
         die("the two desks print otherwise");
     for (size_t i = 0; i + 6 < len[PLAIN]; i++)
         values += memcmp(bytes[PLAIN] + i, "\nvalue ", 7) == 0;
-    if (values != (script == QUESTIONS ? LINES : 0) || memcmp(bytes[PLAIN], "accepted\nnew\n", 13) != 0)
+    const char *filed = script->filed_by == FILINGS ? "accepted\nnew\n" : "accepted\n";
+    if (values != (script->has_values ? script->lines : 0) || len[PLAIN] < strlen(filed) || memcmp(bytes[PLAIN], filed, strlen(filed)) != 0)
         die("a question gets no value");
     free(bytes[PLAIN]);
     free(bytes[DESK]);
@@ -139,25 +165,45 @@ static void time_all(const char *const *programs, double least[SCRIPTS][SIDES])
 {
     for (int round = 0; round < ROUNDS; round++)
         for (int script = 0; script < SCRIPTS; script++)
-            for (int k = 0; k < SIDES; k++) {
-                double seconds = run(programs[k], NAMES[script], "/dev/null");
+            for (int k = 0; k < SIDES && round < ALL[script].rounds; k++) {
+                double seconds = run(programs[k], ALL[script].name, "/dev/null");
                 if (round == 0 || seconds < least[script][k])
                     least[script][k] = seconds;
             }
 }
 
+static void show_head(void)
+{
+    printf("%-26s | %9s %9s | %11s %11s | %6s\n", "", "plain", "desk", "plain", "desk", "");
+    printf("%-26s | %9s %9s | %11s %11s | %6s\n", "script", "ns a line", "ns a line", "lines/s", "lines/s", "ratio");
+}
+
+static void show_row(double least[SCRIPTS][SIDES], int script)
+{
+    double ns[SIDES];
+    for (int k = 0; k < SIDES; k++)
+        ns[k] = 1e9 * (least[script][k] - least[ALL[script].filed_by][k]) / ALL[script].lines;
+    printf("%-26s | %9.1f %9.1f | %11.0f %11.0f | %6.2f\n", ALL[script].title, ns[PLAIN], ns[DESK], 1e9 / ns[PLAIN], 1e9 / ns[DESK], ns[DESK] / ns[PLAIN]);
+}
+
+static void show_filings(double least[SCRIPTS][SIDES], int script)
+{
+    printf("%s: %.2f ms plain, %.2f ms desk\n", ALL[script].title, 1e3 * least[script][PLAIN], 1e3 * least[script][DESK]);
+}
+
 static void show(double least[SCRIPTS][SIDES])
 {
     printf("The desk: %d lines on the largest model and delivery (rich, large, ULR), without the start and the filings; the least of %d interleaved runs.\n", LINES, ROUNDS);
-    printf("%-26s | %9s %9s | %11s %11s | %6s\n", "", "plain", "desk", "plain", "desk", "");
-    printf("%-26s | %9s %9s | %11s %11s | %6s\n", "script", "ns a line", "ns a line", "lines/s", "lines/s", "ratio");
-    for (int script = QUESTIONS; script < SCRIPTS; script++) {
-        double ns[SIDES];
-        for (int k = 0; k < SIDES; k++)
-            ns[k] = 1e9 * (least[script][k] - least[FILINGS][k]) / LINES;
-        printf("%-26s | %9.1f %9.1f | %11.0f %11.0f | %6.2f\n", TITLES[script], ns[PLAIN], ns[DESK], 1e9 / ns[PLAIN], 1e9 / ns[DESK], ns[DESK] / ns[PLAIN]);
-    }
-    printf("%s: %.2f ms plain, %.2f ms desk\n", TITLES[FILINGS], 1e3 * least[FILINGS][PLAIN], 1e3 * least[FILINGS][DESK]);
+    show_head();
+    for (int script = QUESTIONS; script <= COMMENTS; script++)
+        show_row(least, script);
+    show_filings(least, FILINGS);
+    printf("Short runs: %d lines on the same files, %d on the dearest model known, the least of %d runs. Plain C has the rows' starts from the filing; the desk checks\n"
+        "the held model again and finds them once, when a short run is first asked for in a piece of input.\n", ORDINARY_LINES, DEAREST_LINES, SHORT_ROUNDS);
+    show_head();
+    show_row(least, ORDINARY);
+    show_row(least, DEAREST);
+    show_filings(least, DEAREST_FILED);
 }
 
 int main(int count, char **arguments)
@@ -170,7 +216,7 @@ int main(int count, char **arguments)
         die("no such program or folder");
     write_scripts();
     for (int script = 0; script < SCRIPTS; script++)
-        same_output(programs, script);
+        same_output(programs, &ALL[script]);
     time_all(programs, least);
     show(least);
     return 0;

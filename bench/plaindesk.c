@@ -1,5 +1,6 @@
-/* The desk in plain C, by the same method, for comparison only: nothing proves this code. Calls come in as lines on standard input, replies go out as
-   lines on standard output; the replies to all lines that one read brought are written together, before the next read.
+/* The desk in plain C, by the same method, but that it keeps the rows' starts from the filing, for comparison only: nothing proves this code. Calls come in
+   as lines on standard input, replies go out as lines on standard output; the replies to all lines that one read brought are written together, before the next
+   read.
    plain.c is taken in as text for its parts, so that it stays as the archive's checks are compared with it. */
 #define _POSIX_C_SOURCE 200809L
 #include "plain.c"
@@ -11,17 +12,18 @@
 #include <sys/stat.h>
 #include <unistd.h>
 
-enum { PIECE = 65536, MOST_LINE = 300, MOST_PATH = 255, MOST_DIGITS = 9, MOST_WORDS = 4, MOST_ENTRIES = 1024 };
+enum { PIECE = 65536, MOST_LINE = 300, MOST_PATH = 255, MOST_DIGITS = 9, MOST_WORDS = 5, MOST_ENTRIES = 1024, MOST_STEPS = 3 };
 enum { MODEL_BYTES = 10240, DELIVERY_BYTES = 17408 };
-enum { NO_MODEL = 40, MODEL_HELD, NO_DELIVERY, NO_BLOCK, NOT_OF_MODEL };
+enum { NO_MODEL = 40, MODEL_HELD, NO_DELIVERY, NO_BLOCK, NOT_OF_MODEL, TOO_MANY_STEPS };
 
 /* The shortest line with a reply is 1 byte and its newline, answered by the 8 bytes of `unclear`; the longest reply has 37 bytes, to a line of 11. */
 enum { LONGEST_REPLY = 64, REPLY_ROOM = 4 * PIECE + LONGEST_REPLY };
 
-/* The register: what it holds of an accepted model and of a delivery accepted for it. */
+/* The register: what it holds of an accepted model, with where its rows start, and of a delivery accepted for it. */
 static struct {
     bool has_model, has_delivery, lowers, means;
     size_t model_len, states, symbols;
+    struct model rules;
     uint32_t margin;
     uint8_t model[MODEL_BYTES + 1], live[MOST_ROWS];
     uint32_t upper[MOST_ENTRIES], lower[MOST_ENTRIES], mean[MOST_ROWS];
@@ -63,7 +65,7 @@ static void put_number(uint64_t number)
     put_text(digits + at, sizeof digits - at);
 }
 
-static void reply_value(uint32_t number)
+static void reply_value(uint64_t number)
 {
     PUT("value ");
     put_number(number);
@@ -134,6 +136,7 @@ static void hold_model(size_t len)
     uint8_t marks[MOST_ROWS], next[MOST_ROWS];
     held.model_len = len;
     find_model(&m);
+    held.rules = m;
     memcpy(held.live, live_marks(&m, marks, next), m.rows);
     held.states = m.states;
     held.symbols = m.symbols;
@@ -233,8 +236,9 @@ static void file_delivery(const struct word *path)
         PUT("new\n");
 }
 
-/* The reason for which a question gets no value, or 0: whether a delivery is needed, whether the place is of the model, whether the block stands. */
-static uint32_t question_reason(bool needs_delivery, bool is_place, bool stands)
+/* The reason for which a question gets no value, or 0: whether a delivery is needed, whether the place is of the model, and the question's own last test, with
+   its reason. */
+static uint32_t reason_or(bool needs_delivery, bool is_place, bool passes, uint32_t reason)
 {
     if (!held.has_model)
         return NO_MODEL;
@@ -242,7 +246,13 @@ static uint32_t question_reason(bool needs_delivery, bool is_place, bool stands)
         return NO_DELIVERY;
     if (!is_place)
         return NOT_OF_MODEL;
-    return stands ? 0 : NO_BLOCK;
+    return passes ? 0 : reason;
+}
+
+/* The same where the last test is whether the block stands. */
+static uint32_t question_reason(bool needs_delivery, bool is_place, bool stands)
+{
+    return reason_or(needs_delivery, is_place, stands, NO_BLOCK);
 }
 
 static bool is_row(uint32_t p, uint32_t z)
@@ -284,6 +294,50 @@ static void ask_live(uint32_t p, uint32_t z, uint32_t q)
         reply_refused(reason, 0, 0);
     else
         reply_value(is_live(held.live, p * held.symbols + z, q));
+}
+
+/* Chances of short runs: of one symbol from those of a stacked pair with a step fewer, and of a pair from those of single symbols. */
+
+static uint64_t chance_of_pair(const struct model *m, size_t steps, const uint8_t *r, size_t q);
+
+/* The chance within so many steps of row `row` and exit q, over 65,536^steps. A record that pushes more symbols than steps are left adds nothing. */
+static uint64_t chance(const struct model *m, size_t steps, size_t row, size_t q)
+{
+    uint64_t sum = 0;
+    if (steps == 0)
+        return 0;
+    for (size_t i = m->starts[row]; i < m->starts[row + 1]; i++) {
+        const uint8_t *r = rule(m, i);
+        if (r[3] >= steps)
+            continue;
+        if (r[3] == 2)
+            sum += weight(r) * chance_of_pair(m, steps - 1, r, q);
+        else if (r[3] == 1)
+            sum += weight(r) * chance(m, steps - 1, row_number(m, r[2], r[4]), q);
+        else if (r[2] == q)
+            sum += (uint64_t)weight(r) << 16 * (steps - 1);
+    }
+    return sum;
+}
+
+/* The chance that the two symbols which a record pushes are gone within so many steps, in state q: over the steps that the upper takes, and the state t after it. */
+static uint64_t chance_of_pair(const struct model *m, size_t steps, const uint8_t *r, size_t q)
+{
+    uint64_t sum = 0;
+    size_t first = row_number(m, r[2], r[4]);
+    for (size_t j = 1; j < steps; j++)
+        for (size_t t = 0; t < m->states; t++)
+            sum += (chance(m, j, first, t) - CERTAIN * chance(m, j - 1, first, t)) * chance(m, steps - j, row_number(m, t, r[5]), q);
+    return sum;
+}
+
+static void ask_within(uint32_t steps, uint32_t p, uint32_t z, uint32_t q)
+{
+    uint32_t reason = reason_or(false, is_row(p, z) && q < held.states, steps <= MOST_STEPS, TOO_MANY_STEPS);
+    if (reason != 0)
+        reply_refused(reason, 0, 0);
+    else
+        reply_value(chance(&held.rules, steps, row_number(&held.rules, p, z), q));
 }
 
 /* Lines. */
@@ -341,7 +395,7 @@ static bool are_numbers(const struct words *words, uint32_t *numbers, size_t cou
 static bool answer_call(const struct words *words)
 {
     const struct word *name = &words->at[0], *path = &words->at[1];
-    uint32_t n[3];
+    uint32_t n[4];
     if (says(name, "upper") && are_numbers(words, n, 3))
         ask_entry(held.upper, true, n[0], n[1], n[2]);
     else if (says(name, "lower") && are_numbers(words, n, 3))
@@ -352,6 +406,8 @@ static bool answer_call(const struct words *words)
         ask_margin();
     else if (says(name, "live") && are_numbers(words, n, 3))
         ask_live(n[0], n[1], n[2]);
+    else if (says(name, "within") && are_numbers(words, n, 4))
+        ask_within(n[0], n[1], n[2], n[3]);
     else if (says(name, "clear") && words->count == 1)
         clear();
     else if (says(name, "model") && words->count == 2 && is_path(path))

@@ -51,6 +51,7 @@ REFUSALS = {
     43: (None, "register", "the held delivery has no lowers (for a lower or the margin) "
                            "or no mean steps (for mean steps)"),
     44: (None, "register", "the state or symbol asked for is not one of the held model"),
+    45: (None, "register", "more than 3 steps were asked for; chances within n steps are answered for n from 0 to 3"),
 }
 SHORTFALL_UNITS = {24: "1/2^56", 26: "1/2^56", 27: "1/2^44 of a step"}
 FILED_UNITS = {24: "1/1048576", 26: "1/1048576", 27: "1/256 of a step"}

@@ -266,7 +266,7 @@ def wrongs(document):
 
 def rules_wrong(text):
     """The rules that a page of rules names without a line for each, or with two."""
-    told = re.findall(r"^\| ([A-Z]\d+)\*? \|", text, re.M)
+    told = re.findall(r"^\| ([A-Z]\d+)\*?(?: \(A\.\d+(?:, A\.\d+)*\))? \|", text, re.M)  # with the requests that amended or added the rule
     return ["docs/RULES.md: %s has %d lines" % (rule, told.count(rule)) for rule in dict.fromkeys(RULE.findall(text)) if told.count(rule) != 1]
 
 

@@ -15,7 +15,7 @@ sys.path.insert(0, str(EXAMPLES))
 import bounds  # noqa: E402 (the folder of examples has to be on the path first)
 
 NAMES = ("model.tab", "bounds.cer")
-NUMBERS = [*range(10, 16), *range(20, 28), *range(40, 45)]
+NUMBERS = [*range(10, 16), *range(20, 28), *range(40, 46)]
 BAD_TEXTS = [  # text, the line at fault
     ("rule 0 0 -> 0 65536\nrul 0 0 -> 0 65536\n", 2),
     ("# comment\n\nrule 0 0 -> 256 65536\n", 3),

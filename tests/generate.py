@@ -164,6 +164,21 @@ def random_model(rng):
     return model_file(sorted(records))
 
 
+def model_of_pairs(rng, states, symbols, each):
+    """A model whose rows have about so many records, which remove the symbol or push two."""
+    rows = [random_row(rng, p, z, (states, symbols), each, (0, 2), 0) for p in range(states) for z in range(symbols)]
+    return model_file(sorted(itertools.chain.from_iterable(rows)))
+
+
+def model_of_one_long_row():
+    """8 states, 16 symbols and 1,024 records: row (0, 0) removes its symbol, going to any state, and pushes two symbols in 889 ways; the others remove theirs."""
+    pushed = [(q, 2, y, x) for y in range(16) for x in range(16) for q in range(8)][:889]
+    heads = sorted([(q, 0, 0, 0) for q in range(8)] + pushed)
+    weights = random_weights(random.Random(1), len(heads), 0)
+    others = [(p, z, (p + z) % 8, 0, 0, 0, 65536) for p in range(8) for z in range(16) if (p, z) != (0, 0)]
+    return model_file([(0, 0, *head, weight) for head, weight in zip(heads, weights)] + others)
+
+
 # Accepted figures at the edge.
 
 def stand(step, values, greatest):

@@ -25,7 +25,8 @@ class Row(NamedTuple):
     twin: tuple   # a new line for each that the edit has, in their order
 
 
-# Registers that have to break the contracts (document 01, "Conditions of acceptance", 3); the mistakes of method; live marks, and reasons; desks.
+# Registers that have to break the contracts (document 01, "Conditions of acceptance", 3); the mistakes of method; short runs (request A.1);
+# live marks, and reasons; desks.
 TABLE = [
     Row("takes no model", "filing/takes_no_model", ("let found = wellformed::check(file); found",)),
     Row("takes no model", "wellformed/takes_no_model", ("    (0 < n) & ((n % RECORD_BYTES == 0) & (n <= 10240))",)),
@@ -78,12 +79,35 @@ TABLE = [
     # whatever the code does: an upper of W, 1,179,648, is above the cap
     Row("caps uppers at 1, by definition", "ppda/uppers_capped_at_one", ("mostChance = 2 ^ 21",)),
 
+    Row("works the second symbol of a pair from the exit, not from the state between", "shortruns/pair_without_middle_state", ("n.row((t), x)",)),
+    Row("leaves a pair as many steps as the rule that pushes it had", "shortruns/one_step_too_many_for_the_pair",
+        ("chance_of_pair(model, starts, n, (left), i, q)",)),
+    Row("takes the first symbol's chance within j steps for that of step j alone", "shortruns/within_taken_for_exactly",
+        ("sum += (within - 65536 * before)",)),
+    Row("gives a chance of a short run over one power of 65,536 more", "shortruns/chance_over_one_power_more", ("let whole = certain((left));",)),
+    Row("counts a short run that returns through any exit", "shortruns/any_exit_counted", ("returned((r), q, whole)",)),
+    Row("counts a run that returns through any exit, by definition", "ppda/any_exit_counted",
+        ("returnedIn q (some (at p [])) = let k = q in bit (eqb p k)",)),
+    Row("looks a short run up in the row of the exit", "questions/short_run_of_another_row", ("n.row((p), z)",)),
+    Row("answers for four steps", "shortruns/four_steps_answered", ("pub const MOST_STEPS: usize = (3);",)),
+    Row("promises nothing of an upper beside a short run", "history/short_promised_weaker",
+        ("AtMostUpper n c (u)", "rw (same, ← one) (holds (n))")),
+    Row("answers for four steps, by definition", "history/four_steps_by_definition", ("toThree k r = cond (leb k 3) r (refusal 45)",)),
+    Row("refuses too many steps before the place, by definition", "history/steps_refused_before_the_place",
+        ("ofModel (x .model) (λ b. atEntry b p z q (cond (leb n 3) (value (chance (rulesOf b) n p z q)) (refusal 45)))",)),
+    Row("answers for three steps whatever is asked, by definition", "history/three_steps_whatever_is_asked",
+        ("toThree n (value (let k = n in chance (rulesOf b) k p z q))",)),
+    Row("promises a short run's chance of another exit", "history/short_chance_promised_of_another_exit",
+        ("(let k = q in c ≡ chance (rulesOf b) n p z k) × (n ≤ 3)",)),
+    Row("does not list 45 for short runs", "history/too_many_steps_not_listed", ("listed (within n p z q) = 40 ∷ (44 ∷ (45 ∷ []))",)),
+
     Row("finds the live marks a round short", "live/marks_a_round_short", ("while left > 0 {",)),
     Row("finds the live marks rounds short, by definition", "ppda/too_few_rounds",
         ("alive m s g = λ p z q. mark m s (entriesIn s g) p z q",)),
     Row("marks every entry as live", "live/everything_live", ("a | b | 0",)),
-    Row("names the block before the place", "calls/block_missed_before_place",
-        ("if !(inside) & true {", "refused((Reason::NotOfModel))", "if !block | false {", "refused(Reason::NoBlock)")),
+    Row("names the block, or too many steps, before the place", "calls/last_test_before_place",
+        ("if !(inside) & true {", "refused((Reason::NotOfModel))", "if !last | false {", "refused((reason))")),
+    Row("names the block where too many steps are asked for", "calls/own_reason_lost", ("return refused((reason));",)),
     Row("names one reason of a record for another", "wellformed/two_reasons_swapped",
         ("refused((Reason::OutOfRange), i)", "refused((Reason::UnusedNotZero), i)")),
 
@@ -95,6 +119,8 @@ TABLE = [
     Row("the desk clears at an unclear line", "said/unclear_line_clears", ("return (Said::Unclear);",)),
     Row("the desk clears at an unclear line, by definition", "script/unclear_line_clears", ("eventsBy es unclear = [] ++ es",)),
     Row("the desk writes known for new", "replies/known_written_for_new", ('Mark::New => put(out, (at), b"new\\n"),',)),
+    Row("the desk reads n of `within` after the entry", "said/steps_read_after_the_entry",
+        ("            steps: (a),", "            p: (b),", "            z: (c),", "            q: (d),")),
     Row("the desk reads a number as its last digit", "spelling/number_is_its_last_digit", ("10 * n + (digit - 48) as usize",)),
     Row("the desk reads a file before the register's own reasons", "script/file_read_before_own_reasons", ("Change::Model => !held & true,",)),
     Row("the desk prints the replies in another order, by definition", "script/replies_in_another_order",

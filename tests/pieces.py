@@ -131,7 +131,7 @@ def any_pieces(room, rng):
 
 def any_end(room, rng):
     """The input may end anywhere, with or without a newline."""
-    script = W_FILED + b"margin\n\n# clear\nupper 0 0 1\nlive 1 0 0\nclear\n"
+    script = W_FILED + b"margin\n\n# clear\nupper 0 0 1\nlive 1 0 0\nwithin 3 0 0 0\nclear\n"
     for end in range(len(script) + 1):
         room.compare("ended after %d bytes" % end, script[:end], room.run_at_once(script[:end]))
     return "%d ends of one script" % (len(script) + 1)
@@ -139,7 +139,7 @@ def any_end(room, rng):
 
 def any_byte(room, rng):
     """Every byte before, within and after a call, in a path and in a comment."""
-    forms = (b"%bmargin", b"mar%bgin", b"margin%b", b"upper 0 %b 0", b"live 1 0%b0", b"model w.tab%b", b"delivery %bw.cer", b"#%b", b"%b")
+    forms = (b"%bmargin", b"mar%bgin", b"margin%b", b"upper 0 %b 0", b"live 1 0%b0", b"within%b3 0 0 0", b"within 3 0 %b 1", b"model w.tab%b", b"delivery %bw.cer", b"#%b", b"%b")
     script = W_FILED + b"".join(form % bytes([byte]) + b"\n" for byte in range(256) for form in forms)
     room.compare("every byte", script, room.run_at_once(script))
     room.compare("every byte, a byte at a time", script, room.run_in_pieces(by_bytes(rng, script)))
@@ -166,7 +166,7 @@ def dense_replies(room, rng):
 
 def filed_and_asked(rng, count):
     """A script that files W and then asks so many questions."""
-    calls = (b"upper %d 0 %d", b"lower %d 0 %d", b"live %d 0 %d")
+    calls = (b"upper %d 0 %d", b"lower %d 0 %d", b"live %d 0 %d", b"within 3 %d 0 %d")
     return W_FILED + b"".join(rng.choice(calls) % (rng.randrange(2), rng.randrange(2)) + b"\n" for _ in range(count))
 
 

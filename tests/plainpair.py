@@ -1,4 +1,5 @@
-"""A desk around the plain pair of document 01: the last accepted model since the last clearing, and the last delivery accepted for it, as bytes.
+"""A desk around the plain pair of document 01: the last accepted model since the last clearing, and the last delivery accepted for it, as bytes. Chances of
+short runs are those of request A.1.
 
 Reads calls as lines on standard input and prints the replies. Each method is one rule, so that tests/wrongdesks.py can change one at a time.
 """
@@ -9,10 +10,11 @@ from functools import lru_cache
 
 import checker
 
-NO_MODEL, MODEL_HELD, NO_DELIVERY, NO_BLOCK, NOT_OF_MODEL = range(40, 45)
+NO_MODEL, MODEL_HELD, NO_DELIVERY, NO_BLOCK, NOT_OF_MODEL, TOO_MANY_STEPS = range(40, 46)
 MODEL_READ, DELIVERY_READ = 10241, 17409  # bytes read of a file: one more than any that can pass has
 LONGEST_LINE, LONGEST_PATH, MOST_DIGITS = 300, 255, 9
-ARGUMENTS = {b"clear": "", b"model": "f", b"delivery": "f", b"upper": "nnn", b"lower": "nnn", b"steps": "nn", b"margin": "", b"live": "nnn"}  # n: number, f: file
+MOST_STEPS = 3  # of a chance that may be asked for
+ARGUMENTS = {b"clear": "", b"model": "f", b"delivery": "f", b"upper": "nnn", b"lower": "nnn", b"steps": "nn", b"margin": "", b"live": "nnn", b"within": "nnnn"}  # n: number, f: file
 
 
 class Refused(Exception):
@@ -35,6 +37,28 @@ def figures_of(model, delivery):
 @lru_cache(maxsize=4096)
 def margin_of(model, delivery):
     return checker.margin(checker.table_of(model), figures_of(model, delivery).upper)
+
+
+def returned_within(rules, p, z, n):
+    """{exit: the chance of having returned there within n steps, over 65536**n}: from p with Z alone, step after step, from each configuration to those that
+    its rules lead to. A stack with more symbols than steps are left is not followed: it cannot be emptied in time."""
+    standing, returned = {(p, (z,)): 1}, {}
+    for left in reversed(range(n)):
+        after, returned = {}, {q: chance * checker.CERTAIN for q, chance in returned.items()}
+        for (state, (top, *below)), chance in standing.items():
+            for rule in rules[state, top]:
+                stack = (rule.y, rule.x)[:rule.length] + tuple(below)
+                if not stack:
+                    returned[rule.q] = returned.get(rule.q, 0) + chance * rule.weight
+                elif len(stack) <= left:
+                    after[rule.q, stack] = after.get((rule.q, stack), 0) + chance * rule.weight
+        standing = after
+    return returned
+
+
+@lru_cache(maxsize=65536)
+def short_chances(model, p, z, n):
+    return returned_within(checker.table_of(model).rules, p, z, n)
 
 
 def read_up_to(path, most):
@@ -145,6 +169,10 @@ class PlainPair:
         if block is None:
             raise Refused(NO_BLOCK)
 
+    def needs_few_steps(self, n):
+        if n > MOST_STEPS:
+            raise Refused(TOO_MANY_STEPS)
+
     def upper(self, p, z, q):
         self.needs_model()
         self.needs_delivery()
@@ -175,6 +203,16 @@ class PlainPair:
         self.needs_model()
         self.needs_place(p, z, q)
         return self.value(int(self.table().is_live[self.table().entry_at(p, z, q)]))
+
+    def within(self, n, p, z, q):
+        self.needs_model()
+        self.needs_place(p, z, q)
+        self.needs_few_steps(n)
+        return self.value(self.chance(n, p, z, q))
+
+    def chance(self, n, p, z, q):
+        """The chance of entry (p, Z, q) within n steps, over 65536**n."""
+        return short_chances(self.model, p, z, n).get(q, 0)
 
     def value(self, number):
         return "value %d" % number
@@ -220,7 +258,7 @@ class Desk(PlainPair):
 
     def reply_to(self, name, arguments):
         calls = {b"clear": self.clear, b"model": self.file_model, b"delivery": self.file_delivery, b"upper": self.upper, b"lower": self.lower,
-                 b"steps": self.steps, b"margin": self.margin, b"live": self.live}
+                 b"steps": self.steps, b"margin": self.margin, b"live": self.live, b"within": self.within}
         try:
             return calls[name](*arguments)
         except Refused as refusal:

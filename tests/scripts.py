@@ -1,5 +1,8 @@
-"""Runs the desk on random scripts of calls over folders of files, and compares every reply and every warning with the plain pair in tests/plainpair.py."""
+"""Runs the desk on random scripts of calls over folders of files, and compares every reply and every warning with the plain pair in tests/plainpair.py. Besides, asks
+for the chances of short runs of every entry of several hundred models.
+"""
 import argparse
+import itertools
 import os
 import posixpath
 import random
@@ -19,9 +22,13 @@ LINES = (5, 60)  # of a script, the fewest and the most
 ENOUGH = 1000  # scripts from which on every kind has to occur
 FEWEST = 5  # times, at least, that every reason and every kind of line must then occur
 MOST_SHOWN = 5  # mismatches shown before giving up
-REASONS = (*range(10, 16), *range(20, 28), *range(40, 45))
+REASONS = (*range(10, 16), *range(20, 28), *range(40, 46))
 REPLIES = ("cleared", "accepted", "known", "new", "value", "refused", "unclear", "none")
 FILED = tuple("%s %s" % (mark, shape) for mark in ("known", "new") for shape in checker.SHAPES)
+SHORT = ("within: value above 0", "within: value 0", "within: 40", "within: 44", "within: 45", "within: 40 before 45", "within: 44 before 45")
+RANDOM_MODELS, MODELS_OF_PAIRS = 800, 200  # whose short chances are all asked for
+MOST_WALKED = 40  # records of a model whose short chances are worked out once more, by the checker
+FEWEST_SHORT = 1000  # at least: short chances above 0, those with a part through a pair, and refusals by 45
 CONTROLS = bytes([*range(10), *range(11, 32), 127])  # all but the newline
 SHARED_MEMORY = Path("/dev/shm")
 
@@ -128,10 +135,19 @@ def coordinate(rng, bound):
     return written(rng, number)
 
 
+def steps_asked(rng):
+    """A number of steps from 0 to 5, or now and then a large one, also one that is small by its last digits or its low bits."""
+    number = rng.choice((0, 1, 2, 2, 3, 3, 3, 3, 4, 5))
+    if rng.randrange(16) == 0:
+        number = rng.choice((8, 255, 999999999, 10 + number, 256 + number, 65536 + number, 2**24 + number, 900000000 + number))
+    return written(rng, number)
+
+
 def question(rng, folder, theme):
-    table, name = folder.table(theme), rng.choice((b"upper", b"lower", b"steps", b"margin", b"live"))
+    table, name = folder.table(theme), rng.choice((b"upper", b"lower", b"steps", b"margin", b"live", b"within"))
     bounds = {b"margin": (), b"steps": (table.states, table.symbols)}.get(name, (table.states, table.symbols, table.states))
-    return b" ".join([name] + [coordinate(rng, bound) for bound in bounds])
+    steps = [steps_asked(rng)] if name == b"within" else []
+    return b" ".join([name, *steps] + [coordinate(rng, bound) for bound in bounds])
 
 
 def path_of(rng, name):
@@ -187,7 +203,7 @@ def high_byte(rng, line):
 
 
 def too_few_words(rng, line):
-    return line.rpartition(b" ")[0] or rng.choice((b"model", b"delivery", b"upper", b"live 0 0", b"steps 0"))
+    return line.rpartition(b" ")[0] or rng.choice((b"model", b"delivery", b"upper", b"live 0 0", b"steps 0", b"within 0 0 0"))
 
 
 def double_space(rng, line):
@@ -224,7 +240,7 @@ UNCLEAR = {
     "too many words": lambda rng, line: line + b" 0" * rng.randint(1, 3),
     "no path": lambda rng, line: rng.choice((b"model ", b"delivery ")),
     "a path of 256 bytes": path_too_long,
-    "another word": lambda rng, line: rng.choice((b"value 3", b"known", b"uppers 0 0 0", b"uppe 0 0 0", b"help", b"quit", b"cleared", b"clea", b"0", b"models 1")),
+    "another word": lambda rng, line: rng.choice((b"value 3", b"known", b"uppers 0 0 0", b"uppe 0 0 0", b"help", b"quit", b"cleared", b"clea", b"0", b"models 1", b"withi 0 0 0 0")),
     "a space before #": lambda rng, line: b" # " + line,
 }
 SILENT = {
@@ -245,6 +261,12 @@ def opening(rng, folder, theme):
     return refused + filed[:rng.choice((0, 1, 1, 2, 2))]
 
 
+def asked_again(rng, lines):
+    """Questions on short runs that were asked before a clearing: the answers are those of the model that is held now."""
+    asked = [line for line in lines if line.startswith(b"within ")]
+    return rng.sample(asked, min(len(asked), rng.choice((0, 2, 4))))
+
+
 def make_script(rng, folder):
     """(a script's bytes, the kinds of its lines that are no call, by the line's number)."""
     theme, kinds, due = rng.choice(folder.models), {}, rng.randint(*LINES)
@@ -257,7 +279,7 @@ def make_script(rng, folder):
         lines.append(line)
         if line == b"clear":
             theme = rng.choice(folder.models)
-            lines += opening(rng, folder, theme)
+            lines += opening(rng, folder, theme) + asked_again(rng, lines)
     return b"\n".join(lines[:due]) + b"\n" * (rng.randrange(4) > 0), kinds
 
 
@@ -309,6 +331,17 @@ def agrees(program, root, script_name, script, answered, warnings):
     return False
 
 
+def short_kinds(line, reply):
+    """Of a question on a short run, the kinds that it counts for: its value or its reason, and whether 45 would have applied too."""
+    if not line.startswith(b"within ") or reply == "unclear":
+        return []
+    word, number = reply.split()[:2]
+    if word == "value":
+        return ["within: value 0" if number == "0" else "within: value above 0"]
+    has_many_steps = int(line.split()[1]) > plainpair.MOST_STEPS
+    return ["within: " + number] + ["within: %s before 45" % number] * (has_many_steps and number != "45")
+
+
 def count_kinds(kinds, answered, line_kinds):
     """Counts replies and reasons, and lines that are no call, which the pair must have found to be none."""
     for _, reply in answered:
@@ -316,6 +349,7 @@ def count_kinds(kinds, answered, line_kinds):
         kinds[word] += 1
         if word == "refused":
             kinds[int(number)] += 1
+    kinds.update(kind for line, reply in answered for kind in short_kinds(line, reply))
     for at, kind in line_kinds.items():
         if at < len(answered) and answered[at][1] != ("unclear" if kind in UNCLEAR else None):
             sys.exit("the plain pair replies %r to %r, which has %s" % (*reversed(answered[at]), kind))
@@ -339,13 +373,73 @@ def compare_folder(program, number, folder, scripts, kinds):
 
 def show_kinds(kinds, count):
     """Prints how often each kind occurred; exits when one is too rare, if there were enough scripts for it."""
-    due = [*REASONS, *REPLIES, *FILED, *UNCLEAR, *SILENT]
+    due = [*REASONS, *REPLIES, *FILED, *SHORT, *UNCLEAR, *SILENT]
     print("; ".join("%s: %d" % (kind, kinds[kind]) for kind in due))
     rare = [kind for kind in due if kinds[kind] < FEWEST]
     if count < ENOUGH:
         print("skipped: that every kind occurs needs %d scripts" % ENOUGH)
     elif rare:
         sys.exit("fewer than %d: %s" % (FEWEST, rare))
+
+
+# All chances of short runs.
+
+def short_models(rng):
+    """The models of document 01's edges and of the far ends, models of pairs up to the largest, and random ones."""
+    yield from (case[1] for case in [*generate.documented_edges(), *generate.far_ends()] if checker.check_model(case[1]) == (0, 0))
+    yield generate.model_of_one_long_row()
+    for states, symbols, each in ((8, 16, 8), (2, 16, 32), (1, 16, 64), (8, 2, 64), (8, 1, 70)):
+        yield generate.model_of_pairs(rng, states, symbols, each)
+    for _ in range(MODELS_OF_PAIRS):
+        yield generate.model_of_pairs(rng, rng.randint(1, 4), rng.randint(1, 4), rng.randint(2, 8))
+    for _ in range(RANDOM_MODELS):
+        yield generate.random_model(rng)
+
+
+def all_short(table, name):
+    """A script that files a model alone and asks for the chance of every entry within 0 to 3 steps, and within 4."""
+    asked = [b"within %d %d %d %d" % (n, *entry) for n in range(plainpair.MOST_STEPS + 2) for entry in table.entries]
+    return b"\n".join([b"model " + name, *asked])
+
+
+def check_walks(table, model):
+    """On a small model, the plain pair's chances are those of the checker, which follows every stack."""
+    if len(table.records) > MOST_WALKED:
+        return
+    for (p, z), n in itertools.product(table.rows, range(plainpair.MOST_STEPS + 1)):
+        if plainpair.short_chances(model, p, z, n) != checker.chances_by_runs(table.rules, p, z, n):
+            sys.exit("two walks disagree: %s, row (%d, %d), %d steps" % (model.hex(), p, z, n))
+
+
+def through_pairs(table, model):
+    """How many entries have a chance within 3 steps of which a part goes through a rule that pushes two."""
+    count, single = 0, {row: [rule for rule in rules if rule.length < 2] for row, rules in table.rules.items()}
+    for p, z in table.rows:
+        whole, part = plainpair.short_chances(model, p, z, 3), plainpair.returned_within(single, p, z, 3)
+        count += sum(chance != part.get(q, 0) for q, chance in whole.items())
+    return count
+
+
+def compare_short(program, seed):
+    """Compares all short chances of many models, says how many, and hands back how many models disagree."""
+    folder, kinds, wrong = Folder((model, b"") for model in short_models(random.Random(seed))), Counter(), 0
+    with tempfile.TemporaryDirectory(dir=SHARED_MEMORY if SHARED_MEMORY.is_dir() else None) as root:
+        folder.write(os.fsencode(root))
+        for name in folder.models:
+            table, model, script = folder.table(name), folder.files[name], all_short(folder.table(name), name)
+            answered, warnings, _ = expected(folder, script)
+            kinds.update(kind for line, reply in answered for kind in short_kinds(line, reply))
+            kinds["pairs"] += through_pairs(table, model)
+            check_walks(table, model)
+            wrong += not agrees(program, root, "short chances of file %r" % name, script, answered, warnings)
+            if wrong >= MOST_SHOWN:
+                return wrong
+    above, zero, refused = (kinds["within: " + kind] for kind in ("value above 0", "value 0", "45"))
+    print("desk: %d short chances of %d models compared, %d of them above 0, %d with a part through a pair; %d refused by 45"
+          % (above + zero, len(folder.models), above, kinds["pairs"], refused))
+    if min(above, kinds["pairs"], refused) < FEWEST_SHORT:
+        sys.exit("fewer than %d short chances of a kind" % FEWEST_SHORT)
+    return wrong
 
 
 def main():
@@ -359,7 +453,7 @@ def main():
         wrong += compare_folder(program, number, folder, scripts, kinds)
         if wrong >= MOST_SHOWN:
             break
-    if wrong:
+    if wrong or compare_short(program, options.seed):
         sys.exit(1)
     show_kinds(kinds, options.count)
     replies = sum(kinds[reply] for reply in REPLIES[:-1])

@@ -13,11 +13,22 @@ import scripts
 from stored import certificate, of_w, rules
 
 CRATE = Path(__file__).resolve().parent.parent / "crates" / "desk"
-QUESTIONS = ["upper 0 0 0", "lower 0 0 0", "steps 0 0", "margin", "live 0 0 0"]
+QUESTIONS = ["upper 0 0 0", "lower 0 0 0", "steps 0 0", "margin", "live 0 0 0", "within 3 0 0 0"]
+STEPS = range(5)  # that a short chance is asked for: 0 to 3, and 4, which is refused
 REPLIES = {"cleared", "accepted", "known", "new", "value", "refused", "unclear", None}
 
 
 # The files.
+
+def pairs():
+    """Three states and two symbols; rules that push two symbols, of which the upper may leave in any of several states."""
+    return rules((0, 0, 1, 0, 0, 0, 20000), (0, 0, 1, 2, 1, 0, 30001), (0, 0, 2, 1, 1, 0, 15535),
+                 (0, 1, 0, 0, 0, 0, 32769), (0, 1, 2, 0, 0, 0, 1), (0, 1, 2, 2, 0, 1, 32766),
+                 (1, 0, 0, 0, 0, 0, 65535), (1, 0, 1, 2, 0, 0, 1),
+                 (1, 1, 0, 0, 0, 0, 10000), (1, 1, 1, 0, 0, 0, 20000), (1, 1, 2, 0, 0, 0, 30000), (1, 1, 2, 2, 1, 1, 5536),
+                 (2, 0, 0, 2, 1, 0, 3), (2, 0, 1, 0, 0, 0, 65533),
+                 (2, 1, 0, 1, 0, 0, 4096), (2, 1, 2, 0, 0, 0, 61440))
+
 
 def model_files():
     w, large = generate.MODEL_W, generate.largest_model()
@@ -25,7 +36,7 @@ def model_files():
         "w.tab": w, "one.tab": generate.one_row_model(49152, 16384), "modèle-表.tab": w, "large.tab": large,
         "10.tab": w[:-1], "11.tab": rules((0, 0, 8, 0, 0, 0, 65536)), "12.tab": rules((0, 0, 0, 0, 0, 0, 32768), (0, 0, 0, 1, 0, 1, 32768)),
         "13.tab": rules((0, 0, 0, 0, 0, 0, 65537)), "14.tab": w[:10] + w, "15.tab": rules((0, 0, 1, 0, 0, 0, 65536)),
-        "longer.tab": large + large[-10:], "empty": b"", "sub/w.tab": w,
+        "longer.tab": large + large[-10:], "empty": b"", "sub/w.tab": w, "pairs.tab": pairs(),
     }
 
 
@@ -49,7 +60,7 @@ def delivery_files():
 
 def empty_register():
     yield from ("# An empty register: 40 to all but a model and a clearing, whatever the file.", "clear", "clear", *QUESTIONS)
-    yield from ("upper 999999999 999999999 999999999", "delivery w.cer", "delivery gone", "delivery sub", "delivery empty")
+    yield from ("upper 999999999 999999999 999999999", "within 0 0 0 0", "within 4 0 0 0", "within 4 9 9 9", "delivery w.cer", "delivery gone", "delivery sub", "delivery empty")
 
 
 def refused_models():
@@ -60,8 +71,21 @@ def refused_models():
 
 
 def model_alone():
-    yield from ("# W, and a second model: 41 whatever the file. Without a delivery: 42, but for live marks.", "model w.tab", "model w.tab", "model gone", "model 10.tab")
+    yield from ("# W, and a second model: 41 whatever the file. Without a delivery: 42, but for live marks and short chances.", "model w.tab", "model w.tab", "model gone", "model 10.tab")
     yield from (*QUESTIONS, "live 1 0 0", "live 0 0 1", "live 1 0 1", "live 2 0 0", "live 0 1 0", "live 0 0 2", "upper 2 0 0", "lower 0 1 0", "steps 9 9")
+
+
+def short_chances():
+    yield "# W's short chances, of a model alone: all entries within 0 to 3 steps. From 4 on 45, but 44 first."
+    yield from ("within %d %d 0 %d" % (n, p, q) for n in STEPS for p in range(2) for q in range(2))
+    yield from ("within %d %s" % (n, entry) for n in (3, 4, 999999999) for entry in ("2 0 0", "0 1 0", "0 0 2", "999999999 0 0"))
+    yield from ("within %s 0 0 0" % n for n in ("000000003", "03", "004", "5", "10", "13", "255", "256", "259", "65536", "65539", "16777219", "999999999", "0000000003", "4294967299"))
+
+
+def short_chances_of_pairs():
+    yield from ("# The short chances of a model with pairs, all entries; 40 before 44 and 45.", "clear", "within 3 0 0 0", "within 4 0 0 0", "within 4 9 9 9", "model pairs.tab")
+    yield from ("within %d %d %d %d" % (n, p, z, q) for n in STEPS for p in range(3) for z in range(2) for q in range(3))
+    yield from ("within 3 3 0 0", "within 3 0 2 0", "within 3 0 0 3", "within 4 3 0 0", "within 4 0 2 0", "within 4 0 0 3", "upper 0 0 0")
 
 
 def refused_deliveries():
@@ -111,6 +135,8 @@ def unclear_words():
     yield from ("margin 0", "margin margin", "Margin", "margin ", "upper", "upper 0", "upper 0 0", "upper 0 0 0 0", "upper 0 0 0 0 0 0", "upper  0 0 0", "upper 0  0 0", "upper 0 0  0")
     yield from (" upper 0 0 0", "upper 0 0 0 ", "Upper 0 0 0", "uppe 0 0 0", "uppers 0 0 0", "lower 0 0", "lower 0 0 0 0", "steps 0", "steps 0 0 0", "steps  0 0", "live 0 0")
     yield from ("live 0 0 0 0", "model w.tab w.tab", "model  w.tab", " model w.tab", "model w.tab ", "Model w.tab", "delivery w.cer w.cer", "delivery  w.cer", "modelw.tab", "margin")
+    yield from ("within", "within 3", "within 3 0 0", "within 3 0 0 0 0", "within  3 0 0 0", " within 3 0 0 0", "within 3 0 0 0 ", "Within 3 0 0 0", "withi 3 0 0 0", "withins 3 0 0 0")
+    yield from ("within -1 0 0 0", "within 3 0 0 q", "within 3,0,0,0", "within3 0 0 0", "within 3 0 0 0")
 
 
 def unclear_bytes():
@@ -136,6 +162,7 @@ def largest():
     yield from ("# The largest files.", "clear", "model longer.tab", "model large.tab", "delivery w.cer", "delivery longer.cer", "delivery large.cer", "delivery large.cer", "margin")
     yield from ("upper 7 15 7", "lower 7 15 7", "steps 7 15", "live 7 15 7", "upper 0 0 0", "upper 7 0 0", "upper 0 15 0", "upper 0 0 7", "steps 7 0", "steps 0 15")
     yield from ("upper 8 0 0", "upper 0 16 0", "upper 0 0 8", "lower 7 15 8", "steps 8 0", "steps 0 16", "live 8 15 7", "live 7 16 7")
+    yield from ("within 3 7 15 7", "within 2 7 15 7", "within 1 7 15 7", "within 3 7 15 0", "within 3 0 0 0", "within 3 8 15 7", "within 3 7 16 7", "within 3 7 15 8", "within 4 7 15 7")
 
 
 def one_state():
@@ -143,8 +170,8 @@ def one_state():
     yield from ("delivery one-ur.cer", *QUESTIONS, "upper 1 0 0", "live 0 0 1", "steps 0 1", "delivery one-ul.cer", "clear", "model one.tab", "live 0 0 0")
 
 
-GROUPS = (empty_register, refused_models, model_alone, refused_deliveries, all_of_w, marks_and_shapes, clearing, numbers, paths, unclear_words, unclear_bytes,
-          lengths, largest, one_state)
+GROUPS = (empty_register, refused_models, model_alone, short_chances, refused_deliveries, all_of_w, marks_and_shapes, clearing, numbers, paths, unclear_words, unclear_bytes,
+          lengths, short_chances_of_pairs, largest, one_state)
 
 
 def script():

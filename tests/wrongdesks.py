@@ -7,6 +7,8 @@ import sys
 import checker
 import plainpair
 import scripts
+import soundness
+from checker import CERTAIN
 from plainpair import Desk, Refused
 
 SCRIPTS = 200  # the first of the default scripts
@@ -166,6 +168,77 @@ def refusal_cut(**zeros):
     return reply_to
 
 
+# Chances of short runs (request A.1).
+
+def most_steps(most):
+    """Answers up to so many steps."""
+    def needs_few_steps(self, n):
+        if n > most:
+            raise Refused(plainpair.TOO_MANY_STEPS)
+    return wrong(needs_few_steps=needs_few_steps)
+
+
+def steps_before_place(self, n, p, z, q):
+    self.needs_model()
+    self.needs_few_steps(n)
+    return Desk.within(self, n, p, z, q)
+
+
+def steps_before_model(self, n, p, z, q):
+    if self.model is None:
+        self.needs_few_steps(n)
+    return Desk.within(self, n, p, z, q)
+
+
+def place_before_model(self, n, p, z, q):
+    """Nothing is of the model where none is held."""
+    if self.model is None:
+        raise Refused(plainpair.NOT_OF_MODEL)
+    return Desk.within(self, n, p, z, q)
+
+
+def within_needs_delivery(self, n, p, z, q):
+    self.needs_model()
+    self.needs_delivery()
+    return Desk.within(self, n, p, z, q)
+
+
+def exactly(self, n, p, z, q):
+    return Desk.chance(self, n, p, z, q) - CERTAIN * (Desk.chance(self, n - 1, p, z, q) if n else 0)
+
+
+def rounds_for_steps(self, n, p, z, q):
+    """n rounds of f from zero, over 65536^(2^n - 1), cut down to 65536^n."""
+    return soundness.rounds_of_f(self.table(), n)[self.table().entry_at(p, z, q)] // CERTAIN ** max(0, 2 ** n - 1 - n)
+
+
+def pair_by_single(self, n, r, y, x, q, middles):
+    """The chance that Y over X is gone within n steps, in q, from r: over the steps j that Y takes, and the middle states."""
+    def first(j, t):
+        return self.chance(j, r, y, t) - CERTAIN * self.chance(j - 1, r, y, t)
+    return sum(first(j, t) * self.chance(n - j, t, x, q) for j in range(1, n) for t in middles)
+
+
+def pair_of_request(self, n, rule, q):
+    return pair_by_single(self, n, rule.q, rule.y, rule.x, q, range(self.table().states))
+
+
+def by_pairs(pair):
+    """A desk by the request's method: the chance of one symbol from that of a stacked pair, over the row's rules."""
+    def chance(self, n, p, z, q):
+        def through(rule):
+            if rule.length == 0:
+                return CERTAIN ** (n - 1) if rule.q == q else 0
+            return pair(self, n - 1, rule, q) if rule.length == 2 else self.chance(n - 1, rule.q, rule.y, q)
+        return sum(rule.weight * through(rule) for rule in self.table().rules[p, z]) if n else 0
+    return wrong(chance=chance)
+
+
+def remembered(self, n, p, z, q):
+    """The chance that was found when the entry was first asked for, of whatever model."""
+    return self.__dict__.setdefault("found", {}).setdefault((n, p, z, q), Desk.chance(self, n, p, z, q))
+
+
 def read_one_byte_less(self, path, most):
     return self.files(path, most - 1)
 
@@ -271,6 +344,26 @@ WRONG = {
     "the exit taken for the state": wrong(upper=lambda self, p, z, q: Desk.upper(self, q, z, p)),
     "symbols counted as states": wrong(needs_place=states_for_symbols),
     "the exit not held to the states": wrong(needs_place=place_without_exit),
+    "4 steps answered": most_steps(4),
+    "3 steps refused": most_steps(2),
+    "any number of steps answered, as 3 from there on": wrong(within=lambda self, n, p, z, q: Desk.within(self, min(n, 3), p, z, q)),
+    "45 before 44": wrong(within=steps_before_place),
+    "45 before 40": wrong(within=steps_before_model),
+    "44 before 40": wrong(within=place_before_model),
+    "a short chance needs a delivery": wrong(within=within_needs_delivery),
+    "a short chance over 65,536^(n+1)": wrong(chance=lambda self, n, p, z, q: CERTAIN * Desk.chance(self, n, p, z, q)),
+    "a short chance over 65,536^3, whatever n": wrong(chance=lambda self, n, p, z, q: CERTAIN ** (3 - n) * Desk.chance(self, n, p, z, q)),
+    "in exactly n steps instead of within n": wrong(chance=exactly),
+    "n rounds of f for n steps": wrong(chance=rounds_for_steps),
+    "steps and state exchanged": wrong(within=lambda self, n, p, z, q: Desk.within(self, p, n, z, q)),
+    "the exit taken for the state of a short chance": wrong(within=lambda self, n, p, z, q: Desk.within(self, n, q, z, p)),
+    "a short chance summed over the exits": wrong(chance=lambda self, n, p, z, q: sum(Desk.chance(self, n, p, z, t) for t in range(self.table().states))),
+    "short chances remembered over a clearing": wrong(chance=remembered),
+    "a pair left out": by_pairs(lambda self, n, rule, q: 0),
+    "a pair without the middle state, from the pair's own": by_pairs(lambda self, n, rule, q: pair_by_single(self, n, rule.q, rule.y, rule.x, q, [rule.q])),
+    "a pair without the middle state, from the exit": by_pairs(lambda self, n, rule, q: pair_by_single(self, n, rule.q, rule.y, rule.x, q, [q])),
+    "a pair with one step too many": by_pairs(lambda self, n, rule, q: pair_of_request(self, n + 1, rule, q) // CERTAIN),
+    "a pair's symbols exchanged": by_pairs(lambda self, n, rule, q: pair_of_request(self, n, rule._replace(y=rule.x, x=rule.y), q)),
     "the shortfall left out": wrong(reply_to=refusal_cut(shortfall="0")),
     "the place left out": wrong(reply_to=refusal_cut(place="0")),
     "a byte less read of files": wrong(read=read_one_byte_less),
@@ -305,6 +398,7 @@ WRONG = {
     "byte 127 taken": well_written(lambda byte: byte >= 32),
     "a line of 264 bytes refused": wrong(is_written_well=lambda self, line: Desk.is_written_well(self, line) and len(line) < 264),
 }
+RIGHT = {"short chances by the request's method": by_pairs(pair_of_request)}  # which no script may notice
 
 
 def is_noticed(kind, folder, script, right):
@@ -320,12 +414,15 @@ def is_noticed(kind, folder, script, right):
 
 
 def noticing(cases):
-    """For each wrong desk, how many scripts notice it."""
+    """For each wrong desk, how many scripts notice it. Stops where one notices a right desk."""
     noticed = dict.fromkeys(WRONG, 0)
     for folder, script in cases:
         right = Desk(folder.reader([])).replies(script)
         for name, kind in WRONG.items():
             noticed[name] += is_noticed(kind, folder, script, right)
+        for name, kind in RIGHT.items():
+            if is_noticed(kind, folder, script, right):
+                sys.exit("a right desk is taken for a wrong one: " + name)
     return noticed
 
 
