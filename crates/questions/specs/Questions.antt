@@ -41,14 +41,14 @@ abbrev pub liveAnswer : Shown → List ℕ → ℕ → ℕ → ℕ → Answer
 liveAnswer h l p z q =
     answered (holdsModel (h .length)) true (hasEntry (h .states) (h .symbols) p z q) true (entryValue (h .states) (h .symbols) l p z q)
 
--- The chance of the entry (p, z, q) of the model b within n steps, over 65,536 ^ n. For bytes that are no model, an entry that it has not and more steps than may be
--- asked for it is 0, which no register shows after any list of calls.
+-- The chance of the entry (p, z, q) of the model b within n steps, over 65,536 ^ n. For bytes that are no model, for an entry that they have not, and for more steps than may be
+-- asked for it is 0; after any list of calls, no register answers from one of these three cases.
 unfoldable pub shortChance : List ℕ → ℕ → ℕ → ℕ → ℕ → ℕ
 shortChance b n p z q =
     cond (isRefused (modelVerdict b)) 0
     (cond (hasEntry (statesOf b) (symbolsOf b) p z q && fewSteps n) (chance (rulesOf b) n p z q) 0)
 
--- The chance of an entry within n steps, which needs a model only; by the bytes b, of which the model's file are the first (request A.1).
+-- The chance of an entry within n steps, which needs a model only; by the bytes b, which begin with the model's file (request A.1).
 abbrev pub withinAnswer : Shown → List ℕ → ℕ → ℕ → ℕ → ℕ → Answer
 withinAnswer h b n p z q =
     answeredOr (holdsModel (h .length)) true (hasEntry (h .states) (h .symbols) p z q) (fewSteps n) TooManySteps

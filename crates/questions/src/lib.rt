@@ -1,4 +1,4 @@
-// The questions, answered from what is held: a few small values, and the one list of numbers that is asked, or the model's bytes. Nothing is copied.
+// The questions, answered from what is held: a few small values, and the one list of numbers that is asked, or the model's bytes with their index. Nothing is copied.
 
 use calls::Answer;
 use calls::Question;
@@ -19,7 +19,7 @@ use model::format::MOST_ENTRIES;
 use model::sizes::Sizes;
 use outcome::Reason;
 use rows::STARTS;
-use short::Asked;
+use short::ShortRun;
 use short::short_chance;
 use shortruns::few_steps;
 
@@ -145,7 +145,7 @@ pub fn within(
     sizes: Sizes,
     bytes: &[u8; MOST_BYTES],
     starts: &[u16; STARTS],
-    asked: Asked,
+    asked: ShortRun,
 ) -> Answer
     requires { ⌜ Indexes (held .length) sizes (now bytes) (now starts) ⌝ }
     ensures { λ r. ⌜ r ≡ withinAnswer held (now (bytes .entry)) (asked .steps) (asked .p) (asked .z) (asked .q) ⌝ }
@@ -195,7 +195,7 @@ pub fn answer<'a>(
         Question::Margin => margin(held),
         Question::Live { p, z, q } => live(held, &lists[MARKS], p, z, q),
         Question::Within { steps, p, z, q } => {
-            let asked = Asked { steps, p, z, q };
+            let asked = ShortRun { steps, p, z, q };
             within(held, sizes, bytes, starts, asked)
         }
     }

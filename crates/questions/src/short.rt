@@ -12,20 +12,20 @@ ghost use Rattle.questions.specs.Questions.{shortChance};
 ghost use Rattle.questions.specs.Contracts.{RowsOf};
 
 // What is asked of a short run: how many steps, and the entry.
-pub struct Asked {
+pub struct ShortRun {
     pub steps: usize,
     pub p: usize,
     pub z: usize,
     pub q: usize,
 }
 
-// The chance of the entry within so many steps, over 65,536 to their number: 0 where the bytes are no model.
+// The chance of the entry within so many steps, over 65,536 to their number: 0 where the bytes are no model or have no such entry, or the steps are more than may be asked for.
 pub(crate) fn short_chance(
     bytes: &[u8],
     count: usize,
     n: Sizes,
     starts: &[u16; STARTS],
-    asked: Asked,
+    asked: ShortRun,
 ) -> u64
     requires { ⌜ (count ≤ length (now bytes)) × RowsOf (take count (now bytes)) n (now starts) ⌝ }
     ensures { λ r. ⌜ r ≡ shortChance (take count (now (bytes .entry))) (asked .steps) (asked .p) (asked .z) (asked .q) ⌝ }

@@ -23,7 +23,7 @@ use questions::LISTS;
 use questions::Shown;
 use questions::View;
 use questions::index;
-use questions::short::Asked;
+use questions::short::ShortRun;
 use rows::STARTS;
 ghost use mathlib.Core.Path.{_≡_};
 ghost use Rattle.register.specs.Filing.{cleared, turnedDown, fileModel, turnedAway, fileDelivery};
@@ -208,7 +208,7 @@ impl Register {
         let length = self.model.length;
         let mut starts = [0u16; STARTS];
         let sizes = index::find(&bytes, length, &mut starts);
-        let asked = Asked { steps, p, z, q };
+        let asked = ShortRun { steps, p, z, q };
         questions::within(shown, sizes, &bytes, &starts, asked)
     }
 

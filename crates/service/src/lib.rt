@@ -134,7 +134,7 @@ fn finished(
 }
 
 // Takes a piece of input, as much of it as there is surely room for the replies to, and prints these from the start of `out` on. Questions are answered
-// from a view v of the register and its lists of numbers, which are taken anew after each change; what short runs need of the model is found when one is first asked for.
+// from a view v of the register and its lists of numbers, which are taken anew after each change; what short runs need of the model is found when one is first asked for in the piece or after a change.
 pub fn serve(desk: Desk, piece: &[u8], out: &mut [u8]) -> Served
     ensures { λ r. ⌜ Took desk (now (piece .entry)) (now (out .entry)) (now (out .exit)) r ⌝ }
 {
@@ -147,10 +147,8 @@ pub fn serve(desk: Desk, piece: &[u8], out: &mut [u8]) -> Served
     let mut line = desk.line;
     let mut kept = least(desk.kept, KEPT);
     let mut at = 0;
-    let mut i = 0;
-    while i < taken {
+    for i in 0..taken {
         let byte = piece[i];
-        i += 1;
         if byte != b'\n' {
             kept = keep_byte(&mut line, kept, byte);
             continue;
@@ -159,7 +157,8 @@ pub fn serve(desk: Desk, piece: &[u8], out: &mut [u8]) -> Served
         if may_change(said) {
             let changed = perform(register, said, &line[..kept]);
             kept = 0;
-            register = changed.register;
+            let after = changed.register;
+            register = after;
             v = register.view();
             lists = register.lists();
             sizes = none();
@@ -168,13 +167,8 @@ pub fn serve(desk: Desk, piece: &[u8], out: &mut [u8]) -> Served
             continue;
         }
         kept = 0;
-        sizes = find_if(
-            asks_short(said),
-            sizes,
-            &v.bytes,
-            v.shown.length,
-            &mut starts,
-        );
+        let short = asks_short(said);
+        sizes = find_if(short, sizes, &v.bytes, v.shown.length, &mut starts);
         let response = answer(v.shown, sizes, &v.bytes, &starts, &lists, said);
         at = put_response(out, at, response);
     }

@@ -80,7 +80,7 @@ pub fn chance(
     sum
 }
 
-// The chance that the two symbols which record i pushes are gone in state q: over how many steps the first takes, 1 and more, and over the state between. The first
+// The chance that the two symbols which record i pushes are gone within so many steps, in state q: over how many steps the first takes, 1 and more, and over the state between. The first
 // takes j steps with the chance within j less that within j − 1; the second has the steps that are left.
 fn chance_of_pair(
     model: &[u8],

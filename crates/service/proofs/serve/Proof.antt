@@ -1,9 +1,11 @@
 -- `serve`: each byte takes the desk a step on, and there is room for a reply to each.
-use Prim.Native.Nat.{_-_}
+use Prim.Native.Nat.{_+_, _-_}
 use native.Mathlib.Omega.{arith}
 use mathlib.Core.Path.{_≡_, refl, sym, ap, _∙_}
 use lib.ListN.{length, length-map}
 use lib.Seq.{length-take-le}
+use mir.Syntax.{w64}
+use mir.Val.{Fits}
 use borrow.Author.Tests.{eq-eqb, ne-eqb}
 use borrow.Author.Needs.{needs}
 use Rattle.model.specs.declared.sizes.Sizes.{Sizes}
@@ -47,11 +49,15 @@ loop-holds c =
 shared-slice-read-byte : tie.Need-shared-slice-read-byte Inv-loop μ-loop
 shared-slice-read-byte c = search needs
 
-add-i : tie.Need-add-i Inv-loop μ-loop
-add-i c = search needs
-
 keep-byte-requires : tie.Need-keep-byte-requires Inv-loop μ-loop
 keep-byte-requires c κs = search needs
+
+-- The next byte's number fits, since the piece's length does.
+next-fits : (c : tie.In-loop Inv-loop μ-loop) → Fits w64 (c .before .loop .i + 1)
+next-fits c = search needs
+
+add-i : tie.Need-add-i Inv-loop μ-loop
+add-i c = search needs
 
 loop-less : tie.Need-loop-less Inv-loop μ-loop
 loop-less c = search needs
@@ -95,6 +101,9 @@ none-requires-2 c κs = search needs
 put-response-requires : tie.Need-put-response-requires Inv-loop μ-loop
 put-response-requires c κs = let turn = c .before .before .before .before .before .before .before .before .before .before .before .before .before in reply-fits (turn .before .loop .inv .0) (turn .loop-test .taken)
 
+add-i-2 : tie.Need-add-i-2 Inv-loop μ-loop
+add-i-2 c = next-fits (c .before .before .before .before .before .before .before .before .before .before .before .before .before .before .before .before)
+
 loop-less-2 : tie.Need-loop-less-2 Inv-loop μ-loop
 loop-less-2 c = search needs
 
@@ -123,6 +132,9 @@ answer-requires c κs = λ needed. c .before .before .before .before .before .fi
 
 put-response-requires-2 : tie.Need-put-response-requires-2 Inv-loop μ-loop
 put-response-requires-2 c κs = let turn = c .before .before .before .before .before .before .before .before .before .before .before .before .before .before .before .before .before .before in reply-fits (turn .before .loop .inv .0) (turn .loop-test .taken)
+
+add-i-3 : tie.Need-add-i-3 Inv-loop μ-loop
+add-i-3 c = next-fits (c .before .before .before .before .before .before .before .before .before .before .before .before .before .before .before .before .before .before .before .before .before)
 
 loop-less-3 : tie.Need-loop-less-3 Inv-loop μ-loop
 loop-less-3 c = search needs
@@ -175,8 +187,8 @@ serve-spec =
     least-requires-2
     loop-holds
     shared-slice-read-byte
-    add-i
     keep-byte-requires
+    add-i
     loop-less
     loop-again
     array-share-prefix-line
@@ -190,12 +202,14 @@ serve-spec =
     lists-requires-2
     none-requires-2
     put-response-requires
+    add-i-2
     loop-less-2
     loop-again-2
     asks-short-requires
     find-if-requires
     answer-requires
     put-response-requires-2
+    add-i-3
     loop-less-3
     loop-again-3
     finished-requires
