@@ -88,6 +88,7 @@ TABLE = [
     Row("counts a short run that returns through any exit", "shortruns/any_exit_counted", ("returned((r), q, whole)",)),
     Row("counts a run that returns through any exit, by definition", "ppda/any_exit_counted",
         ("returnedIn q (some (at p [])) = let k = q in bit (eqb p k)",)),
+    Row("lends the lowers for the uppers", "register/lists_have_lowers_for_uppers", ("let uppers = (self.numbers.uppers);",)),
     Row("looks a short run up in the row of the exit", "questions/short_run_of_another_row", ("n.row((p), z)",)),
     Row("answers for four steps", "shortruns/four_steps_answered", ("pub const MOST_STEPS: usize = (3);",)),
     Row("promises nothing of an upper beside a short run", "history/short_promised_weaker",

@@ -1,5 +1,6 @@
 -- `short_chance`: past the tests the bytes are a model, since its index has states, and the chance is that of the entry's row.
 use Prim.Native.Nat.{_≤_, _<_}
+use native.Mathlib.Omega.{arith}
 use mathlib.Core.Bool.{and-eq-true-iff}
 use mathlib.Core.Path.{sym, ap₂, _∙_}
 use lib.Seq.{length-take-le}
@@ -38,9 +39,9 @@ both c =
 
 row-requires : tie.Need-row-requires
 row-requires c κs =
-    let it = both (c .before) .0 in
+    let ((p, z), q) = both (c .before) .0 in
     let index = c .before .before .before .before .before .pre .1 in
-    (fits-narrow (sized-fits (index .indexed (is-model index (it .0 .0)) .sized)), it .0 .0, it .0 .1)
+    (fits-narrow (sized-fits (index .indexed (is-model index p) .sized)), omega arith, omega arith)
 
 chance-requires : tie.Need-chance-requires
 chance-requires c κs =
