@@ -1,12 +1,12 @@
 -- The table of exchanges holds, computed on the plain pair; so a register replies as the table has it.
 use mathlib.Core.List.{List, [], _∷_, map, flatMap}
 use mathlib.Core.Path.{_≡_, refl, ap, _∙_}
-use Rattle.walks.specs.Lists.{listTo, each}
+use Rattle.walks.specs.Lists.{listTo, each, lists}
 use Rattle.outcome.specs.Tests.{first}
 use Rattle.words.specs.Words.{wordAt}
 use Rattle.walks.specs.Sums.{sign, sum, sumTo, leastTo, allTo, greatestTo}
 use Rattle.ppda.specs.Rules.{fits, overRow}
-use Rattle.ppda.specs.Runs.{after, lists, weigh, overRuns, overRunsWithin}
+use Rattle.ppda.specs.Runs.{after, weigh, overRuns, overRunsWithin}
 use Rattle.ppda.specs.Chances.{chanceFrom}
 use Rattle.ppda.specs.Equations.{f, meanSide}
 use Rattle.ppda.specs.Live.{mark, isLive, alive}

@@ -12,7 +12,8 @@ use Rattle.outcome.specs.declared.Outcome.the-variants.{Accepted}
 use Rattle.walks.proofs.Exactly.{lt-exactly, le-exactly, both}
 use Rattle.walks.specs.Sums.{sum, sumTo}
 use Rattle.ppda.specs.Rules.{fits}
-use Rattle.ppda.specs.Runs.{after, lists, weigh, overRuns, overRunsWithin}
+use Rattle.walks.specs.Lists.{lists}
+use Rattle.ppda.specs.Runs.{after, weigh, overRuns, overRunsWithin}
 use Rattle.ppda.specs.Chances.{chanceFrom, chance}
 use Rattle.ppda.specs.Bounds.{UpperHolds, MeanHolds}
 use Rattle.ppda.proofs.Marks.{alive-is-bit}

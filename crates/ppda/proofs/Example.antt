@@ -5,11 +5,11 @@ use mathlib.Core.Path.{_≡_, refl}
 use mathlib.Core.List.{List, [], _∷_, flatMap}
 use Rattle.walks.specs.Sums.{sum, sumTo}
 use Rattle.ppda.specs.Rules.{Rule, rule, nothing, one, two, fits, overRow, IsModel}
-use Rattle.ppda.specs.Runs.{after, lists, weigh, overRuns, overRunsWithin}
+use Rattle.ppda.specs.Runs.{after, weigh, overRuns, overRunsWithin}
 use Rattle.ppda.specs.Chances.{chance, chanceFrom, mean, counted}
 use Rattle.ppda.specs.Equations.{Vector, RowVector, entries, rows, f, meanSide}
 use Rattle.ppda.proofs.Rows.{rules-of-test}
-use Rattle.walks.specs.Lists.{listTo, each}
+use Rattle.walks.specs.Lists.{listTo, each, lists}
 use Rattle.walks.proofs.Lists.{at-rows, inOrder, rowsInOrder}
 
 abbrev pub v : List Rule

@@ -11,7 +11,8 @@ use lib.Dec.{eqb}
 use borrow.Author.Tests.{eq-eqb, eqb-true}
 use Rattle.walks.specs.Sums.{bit, In}
 use Rattle.ppda.specs.Rules.{Push, nothing, one, two, pushed, Rule, fits, Below, IsModel}
-use Rattle.ppda.specs.Runs.{Config, at, after, lists}
+use Rattle.walks.specs.Lists.{lists}
+use Rattle.ppda.specs.Runs.{Config, at, after}
 use Rattle.ppda.specs.Equations.{Vector, through, f}
 use Rattle.ppda.specs.Live.{Live, mark, isLive, alive}
 use Rattle.walks.proofs.Sums.{left-of-product, right-of-product, sumTo-positive, term-le-sumTo}

@@ -9,7 +9,8 @@ use mathlib.Core.Option.{Option, none, some}
 use lib.Dec.{eqb}
 use Rattle.walks.specs.Sums.{bit, sum, sumTo}
 use Rattle.ppda.specs.Rules.{Rule, fits, overRow, pushed}
-use Rattle.ppda.specs.Runs.{Config, at, after, lists, weigh, overRuns, overRunsWithin}
+use Rattle.walks.specs.Lists.{lists}
+use Rattle.ppda.specs.Runs.{Config, at, after, weigh, overRuns, overRunsWithin}
 use Rattle.ppda.specs.Chances.{returned, underWay, chanceFrom, chanceByStep, counted}
 use Rattle.walks.proofs.Sums.{sum-cong, sum-zero, sum-mul, sum-add, sum-map, sum-flatMap, sumTo-cong, sumTo-zero, sumTo-add, sumTo-front}
 use Rattle.ppda.proofs.Rows.{row-cong, row-add, row-mul, row-swap}

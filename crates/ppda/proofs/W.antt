@@ -4,12 +4,12 @@ use mathlib.Core.Path.{_≡_, refl}
 use mathlib.Core.List.{[], _∷_, flatMap}
 use Rattle.walks.specs.Sums.{sum, sumTo, sign, leastTo}
 use Rattle.ppda.specs.Rules.{fits, overRow}
-use Rattle.ppda.specs.Runs.{after, lists, weigh, overRuns, overRunsWithin}
+use Rattle.ppda.specs.Runs.{after, weigh, overRuns, overRunsWithin}
 use Rattle.ppda.specs.Chances.{chance, chanceFrom, mean, counted}
 use Rattle.ppda.specs.Equations.{Vector, f, meanSide}
 use Rattle.ppda.specs.Live.{mark, isLive, alive}
 use Rattle.ppda.specs.Margin.{share, shareAt, margin}
-use Rattle.walks.specs.Lists.{listTo, each}
+use Rattle.walks.specs.Lists.{listTo, each, lists}
 use Rattle.walks.proofs.Lists.{inOrder, rowsInOrder}
 use Rattle.ppda.specs.W.{w, wUppers, wLowers, wMeans}
 

@@ -9,7 +9,8 @@ use lib.Dec.{lit<, lit≤}
 use Rattle.walks.specs.Sums.{sum, sumTo, sign}
 use Rattle.ppda.specs.Units.{mostChance}
 use Rattle.ppda.specs.Rules.{rule, fits, overRow, IsModel}
-use Rattle.ppda.specs.Runs.{after, lists, weigh, overRuns, overRunsWithin}
+use Rattle.walks.specs.Lists.{lists}
+use Rattle.ppda.specs.Runs.{after, weigh, overRuns, overRunsWithin}
 use Rattle.ppda.specs.Chances.{mean, counted, chanceFrom}
 use Rattle.ppda.specs.Equations.{Vector, RowVector, rows, f, meanSide}
 use Rattle.ppda.specs.Live.{Live, mark, isLive, alive}

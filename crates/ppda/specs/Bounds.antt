@@ -39,7 +39,7 @@ pub record Certificate (m : List Rule) (s g : ℕ) (u l : Vector) (r : RowVector
   pub lowers : Lowers m s g u l
   pub means : Means m s g u r
 
--- ---- what mission point 3 promises, of one entry or row. Its inequalities stand here once; files, registers, printed lines and C hosts cite them.
+-- ---- what mission point 3 promises, of one entry or row. Its inequalities stand here once; files, registers, printed lines, C hosts and counter machines cite them.
 
 -- A chance c within n steps is at most the upper u: c counts 1/65,536^n, u counts 1/2^20.
 abbrev pub AtMostUpper : ℕ → ℕ → ℕ → Type 0
@@ -53,13 +53,15 @@ UpperHolds m p z q u = (n : ℕ) → AtMostUpper n (chance m n p z q) u
 unfoldable pub stepsOf : ℕ → ℕ
 stepsOf k = 2 ^ k - 1
 
+-- A chance x within 2^k − 1 steps is at least the lower l less (1 − m)^k times the upper u, for 1 − m = c/h: x counts 1/65,536^(2^k − 1).
+abbrev pub AtLeastLower : ℕ → ℕ → ℕ → ℕ → ℕ → ℕ → Type 0
+AtLeastLower k x l u c h =
+    l * weightUnit ^ stepsOf k * h ^ k ≤ x * chanceUnit * h ^ k + c ^ k * u * weightUnit ^ stepsOf k
+
 -- "Every chance within 2^k − 1 steps is at least the lower less (1 − m)^k times the upper": of the entry (p, z, q), for the lower l, the
 -- upper u and 1 − m = c/h.
 abbrev pub LowerBy : List Rule → ℕ → ℕ → ℕ → ℕ → ℕ → ℕ → ℕ → Type 0
-LowerBy m p z q l u c h =
-    (k : ℕ)
-    → l * weightUnit ^ stepsOf k * h ^ k
-    ≤ chance m (stepsOf k) p z q * chanceUnit * h ^ k + c ^ k * u * weightUnit ^ stepsOf k
+LowerBy m p z q l u c h = (k : ℕ) → AtLeastLower k (chance m (stepsOf k) p z q) l u c h
 
 -- The same by the margin a that is shown: m is a/2^20, and so document 01 has it. Beside it with an m that is never 0: a/2^20, or 1/2^57 where a
 -- is 0.
@@ -67,9 +69,13 @@ pub record LowerHolds (m : List Rule) (p z q l u a : ℕ) : Type 0 where
   pub as-shown : LowerBy m p z q l u (chanceUnit - a) chanceUnit
   pub above-zero : LowerBy m p z q l u (kept a) (whole a)
 
+-- A mean x of steps counted to n is at most the figure r: x counts 1/65,536^n, r counts 1/2^8.
+abbrev pub AtMostMean : ℕ → ℕ → ℕ → Type 0
+AtMostMean n x r = x * stepUnit ≤ r * weightUnit ^ n
+
 -- "Every mean of steps counted to n is at most the figure": of the row (p, z), for the figure r.
 abbrev pub MeanHolds : List Rule → ℕ → ℕ → ℕ → Type 0
-MeanHolds m p z r = (n : ℕ) → mean m n p z * stepUnit ≤ r * weightUnit ^ n
+MeanHolds m p z r = (n : ℕ) → AtMostMean n (mean m n p z) r
 
 -- ---- and of every entry and row of a certificate, with its margin a
 

@@ -9,7 +9,8 @@ use Rattle.walks.specs.Sums.{sign, In}
 use Rattle.ppda.specs.Units.{weightUnit}
 use Rattle.walks.specs.Order.{entriesIn}
 use Rattle.ppda.specs.Rules.{Rule}
-use Rattle.ppda.specs.Runs.{at, after, lists}
+use Rattle.walks.specs.Lists.{lists}
+use Rattle.ppda.specs.Runs.{at, after}
 use Rattle.ppda.specs.Equations.{Vector, f}
 
 -- The entry is live: some finite run from state p with z alone empties the stack in q. It is dead otherwise.

@@ -1,10 +1,11 @@
 -- Runs, as lists of rules each for the state and the top at hand (document 01, "Equations"; the paths of document 001, section III.C), and
 -- sums over all runs of a length.
-use Prim.Native.Nat.{ℕ, zero, suc, _-_, _*_, _^_}
+use Prim.Native.Nat.{ℕ, suc, _-_, _*_, _^_}
 use mathlib.Core.Bool.{cond}
-use mathlib.Core.List.{List, [], _∷_, _++_, map, flatMap}
+use mathlib.Core.List.{List, [], _∷_, _++_}
 use mathlib.Core.Option.{Option, none, some}
 use Rattle.walks.specs.Sums.{sum, sumTo}
+use Rattle.walks.specs.Lists.{lists}
 use Rattle.ppda.specs.Units.{weightUnit}
 use Rattle.ppda.specs.Rules.{Rule, fits, pushed}
 
@@ -18,11 +19,6 @@ unfoldable pub after : ℕ → List ℕ → List Rule → Option Config
 after p σ [] = some (at p σ)
 after p [] (r ∷ l) = none
 after p (z ∷ σ) (r ∷ l) = cond (fits r p z) (after (r .target) (pushed (r .push) ++ σ) l) none
-
--- All lists of j rules of the model.
-unfoldable pub lists : List Rule → ℕ → List (List Rule)
-lists m zero = [] ∷ []
-lists m (suc j) = flatMap (λ r. map (λ l. r ∷ l) (lists m j)) m
 
 -- The product of a list's weights: over 65536 ^ j, the product of the chances of its j rules.
 unfoldable pub weigh : List Rule → ℕ

@@ -1,18 +1,19 @@
--- What holds of every number below a bound, or at every element of a list; lists of zeros; the laws of membership, and of lists made by walks.
+-- What holds of every number below a bound, or at every element of a list; lists of zeros; the laws of membership, of lists made by walks, and of sums over
+-- all lists of a length.
 use Prim.Native.Nat.{ℕ, zero, suc, _+_, _*_, _<_}
 use native.Mathlib.Nat.{not-suc-le-zero, eq-or-lt-of-le, le-of-suc-le-suc, le-refl, add-zero, add-suc, zero-mul, suc-mul}
 use native.Mathlib.Omega.{arith}
 use mathlib.Core.Path.{_≡_, refl, sym, ap, ap₂, subst, _∙_}
 use mathlib.Core.Bool.{Bool, true, false, _&&_, and-eq-true-iff}
-use mathlib.Core.List.{List, [], _∷_, _++_, map, flatMap, append-assoc, append-nil}
+use mathlib.Core.List.{List, [], _∷_, _++_, map, flatMap, append-assoc, append-nil, map-append}
 use mathlib.Core.Logic.{_⊎_, inl, inr}
 use lib.Dec.{eqb}
 use lib.ListN.{length, getD, replicate, length-append, List·getD-append}
 use lib.Seq.{ext-getD, getD-at, getD-append-add}
 use borrow.Author.Tests.{eqb-true, eqb-false}
 use Rattle.walks.specs.Sums.{sum, sumTo, In}
-use Rattle.walks.specs.Lists.{listTo, each}
-use Rattle.walks.proofs.Sums.{sum-append, last-or-below}
+use Rattle.walks.specs.Lists.{listTo, each, lists}
+use Rattle.walks.proofs.Sums.{sum-append, sum-cong, sum-map, sum-flatMap, last-or-below}
 use Rattle.walks.proofs.Places.{row-below}
 
 -- P holds of every number below n.
@@ -133,6 +134,11 @@ unfolding listTo
 listTo-cong h k zero e = refl
 listTo-cong h k (suc n) e = ap₂ (λ l x. l ++ (x ∷ [])) (listTo-cong h k n e) (e n)
 
+pub map-listTo : {A B : Type 0} (k : A → B) (h : ℕ → A) (n : ℕ) → map k (listTo h n) ≡ listTo (λ i. k (h i)) n
+unfolding listTo
+map-listTo k h zero = refl
+map-listTo k h (suc n) = map-append k (listTo h n) (h n ∷ []) ∙ ap (λ l. l ++ (k (h n) ∷ [])) (map-listTo k h n)
+
 -- The first of the list, and the others.
 pub listTo-first : {A : Type 0} (h : ℕ → A) (n : ℕ) → listTo h (suc n) ≡ h 0 ∷ listTo (λ i. h (suc i)) n
 unfolding listTo
@@ -182,3 +188,16 @@ module _ (w : ℕ) (h : ℕ → List ℕ) where
       (λ e. rw (e, ← long) (getD-append-add (each n h) (h n) k 0))
       (λ m. List·getD-append (each n h) (h n) 0 (i * w + k) (rw long (row-below n w i k m lk))
       ∙ getD-each n (λ j o. size j (omega arith)) i k m lk)
+
+-- ---- all lists of a length
+
+-- A sum over the lists of images is a sum over the lists.
+pub sum-lists-map : {A B : Type 0} (k : A → B) (m : List A) (j : ℕ) (h : List B → ℕ)
+    → sum h (lists (map k m) j) ≡ sum (λ l. h (map k l)) (lists m j)
+unfolding lists sum
+sum-lists-map k m zero h = refl
+sum-lists-map k m (suc j) h =
+    sum-flatMap h _ (map k m) ∙ sum-map _ k m
+    ∙ sum-cong _ _ m
+    (λ x i. sum-map h (λ l. k x ∷ l) (lists (map k m) j) ∙ sum-lists-map k m j (λ l. h (k x ∷ l)) ∙ sym (sum-map _ (λ l. x ∷ l) (lists m j)))
+    ∙ sym (sum-flatMap _ _ m)

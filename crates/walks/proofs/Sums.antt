@@ -296,6 +296,11 @@ unfolding greatestTo
 greatest-most h zero a e = omega arith
 greatest-most h (suc n) a e = max-le (greatest-most h n a (λ i b. e i (omega arith))) (e n (le-refl (suc n)))
 
+pub greatest-cong : (h k : ℕ → ℕ) (n : ℕ) → ((i : ℕ) → i < n → h i ≡ k i) → greatestTo h n ≡ greatestTo k n
+unfolding greatestTo
+greatest-cong h k zero e = refl
+greatest-cong h k (suc n) e = ap₂ max (greatest-cong h k n (λ i b. e i (omega arith))) (e n (omega arith))
+
 -- Where a loop begins, and one more turn of it.
 pub greatest-none : (h : ℕ → ℕ) → greatestTo h 0 ≡ 0
 unfolding greatestTo
