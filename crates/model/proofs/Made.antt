@@ -2,11 +2,12 @@
 -- four, and what a rule does not use is 0 in both.
 use Prim.Native.Nat.{ℕ, zero, suc, _+_, _*_, _≤_, _<_, _^_}
 use native.Mathlib.Nat.{add-zero}
+use native.Mathlib.Numerals.{add-one}
 use native.Mathlib.Omega.{arith}
 use mathlib.Core.List.{List, [], _∷_, _++_, append-nil, append-assoc}
 use mathlib.Core.Logic.{inl, inr}
 use mathlib.Core.Path.{_≡_, refl, sym, ap, ap₂, _∙_}
-use lib.ListN.{length, getD, take, drop, length-append}
+use lib.ListN.{length, getD, take, drop, length-append, List·getD-append}
 use lib.Seq.{getD-append-add, take-length, take-add}
 use Rattle.words.specs.Words.{wordAt, Bytes}
 use Rattle.words.proofs.Words.{bytes-none, bytes-cons, bytes-append, four-are-bytes, part-next, word-past, word-made, made-word}
@@ -74,6 +75,43 @@ rules-of-made (r ∷ m) fit =
           (listTo-cong _ _ (recordsOf (madeModel m)) (rule-behind (ruleRecord r) (madeModel m) (record-size r)) ∙ rest),
     )
 
+pub made-length : (m : List Rule) → length (madeModel m) ≡ recordBytes * length m
+unfolding madeModel
+made-length [] = refl
+made-length (r ∷ m) = length-append (ruleRecord r) (madeModel m) ∙ omega (arith, record-size r, made-length m)
+
+-- The bytes and the weight of record i, of a file made of h 0, h 1, …, h (n − 1).
+module _ (h : ℕ → Rule) (n : ℕ) where
+  made-first : madeModel (listTo h (suc n)) ≡ ruleRecord (h 0) ++ madeModel (listTo (λ i. h (suc i)) n)
+  unfolding madeModel
+  made-first = ap madeModel (listTo-first h n)
+
+pub made-field : (h : ℕ → Rule) (n i k : ℕ) → i < n → k < recordBytes → field (madeModel (listTo h n)) i k ≡ getD (ruleRecord (h i)) k 0
+unfolding field
+made-field h zero i k l hk = absurd (omega arith)
+made-field h (suc n) zero k l hk = ap (λ b. field b 0 k) (made-first h n) ∙ in-front
+  where
+    in-front : field (ruleRecord (h 0) ++ madeModel (listTo (λ i. h (suc i)) n)) 0 k ≡ getD (ruleRecord (h 0)) k 0
+    in-front =
+        ap (λ j. getD (ruleRecord (h 0) ++ madeModel (listTo (λ i. h (suc i)) n)) j 0) (omega arith)
+        ∙ List·getD-append (ruleRecord (h 0)) (madeModel (listTo (λ i. h (suc i)) n)) 0 k (omega (arith, record-size (h 0)))
+made-field h (suc n) (suc i) k l hk =
+    ap (λ b. field b (suc i) k) (made-first h n)
+    ∙ field-behind (ruleRecord (h 0)) (madeModel (listTo (λ i. h (suc i)) n)) (record-size (h 0)) i k
+    ∙ made-field (λ i. h (suc i)) n i k (omega arith) hk
+
+pub made-weight : (h : ℕ → Rule) (n i : ℕ) → i < n → ((j : ℕ) → j < n → h j .weight < 2 ^ 32) → weight (madeModel (listTo h n)) i ≡ h i .weight
+unfolding ruleOf
+made-weight h zero i l fit = absurd (omega arith)
+made-weight h (suc n) zero l fit = ap (λ b. weight b 0) (made-first h n) ∙ in-front
+  where
+    in-front : weight (ruleRecord (h 0) ++ madeModel (listTo (λ i. h (suc i)) n)) 0 ≡ h 0 .weight
+    in-front = ap (λ (r : Rule). r .weight) (rule-in-front (h 0) (madeModel (listTo (λ i. h (suc i)) n)) (fit 0 (omega arith)))
+made-weight h (suc n) (suc i) l fit =
+    ap (λ b. weight b (suc i)) (made-first h n)
+    ∙ weight-behind (ruleRecord (h 0)) (madeModel (listTo (λ i. h (suc i)) n)) (record-size (h 0)) i
+    ∙ made-weight (λ i. h (suc i)) n i (omega arith) (λ j m. fit (suc j) (omega arith))
+
 -- The file is made of bytes.
 record-bytes : (r : Rule) → RuleFits r → Bytes (ruleRecord r)
 record-bytes r f = go (r .push) (f .push)
@@ -104,10 +142,18 @@ push-back p z q (suc zero) y x k h top-unused under-unused = rw (under-unused (�
 push-back p z q (suc (suc zero)) y x k h top-unused under-unused = refl
 push-back p z q (suc (suc (suc l))) y x k h top-unused under-unused = absurd (omega arith)
 
-made-append : (l m : List Rule) → madeModel (l ++ m) ≡ madeModel l ++ madeModel m
+pub made-append : (l m : List Rule) → madeModel (l ++ m) ≡ madeModel l ++ madeModel m
 unfolding madeModel
 made-append [] m = refl
 made-append (r ∷ l) m = ap (λ k. ruleRecord r ++ k) (made-append l m) ∙ sym (append-assoc (ruleRecord r) (madeModel l) (madeModel m))
+
+-- One rule more.
+pub made-more : (h : ℕ → Rule) (n : ℕ) → madeModel (listTo h (n + 1)) ≡ madeModel (listTo h n) ++ ruleRecord (h n)
+unfolding listTo madeModel
+made-more h n =
+    ap (λ k. madeModel (listTo h k)) (add-one n)
+    ∙ made-append (listTo h n) (h n ∷ [])
+    ∙ ap (λ k. madeModel (listTo h n) ++ k) (append-nil (ruleRecord (h n)))
 
 module _ (b : List ℕ) (bytes : Bytes b) where
   -- Record i of the file is ten bytes.

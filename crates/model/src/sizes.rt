@@ -69,7 +69,8 @@ pub fn records(model: &[u8]) -> usize
     model.len() / RECORD_BYTES
 }
 
-fn greater(a: usize, b: usize) -> usize
+// The greater of two numbers.
+pub fn greater(a: usize, b: usize) -> usize
     ensures { λ r. ⌜ r ≡ max a b ⌝ }
 {
     if a < b { b } else { a }

@@ -3,9 +3,9 @@ use Prim.Native.Nat.{ℕ, zero, suc, _+_, _*_, _/_, _%_, _≤_, _<_, _^_}
 use native.Mathlib.Nat.{add-zero, add-suc, mod-add-div, mod-eq-of-lt, div-div-eq-div-mul}
 use native.Mathlib.Omega.{arith}
 use mathlib.Core.List.{List, [], _∷_, _++_, append-assoc}
-use mathlib.Core.Path.{_≡_, refl, sym, ap, _∙_}
-use lib.ListN.{length, getD, take, drop, set}
-use lib.Seq.{length-take-le, drop-cons, getD-append-add, take-add, drop-drop, sets-eq}
+use mathlib.Core.Path.{_≡_, refl, sym, ap, ap₂, _∙_}
+use lib.ListN.{length, getD, take, drop, set, length-append, length-drop}
+use lib.Seq.{length-take-le, drop-cons, getD-append-add, drop-append-add, take-add, take-at, drop-drop, sets, sets-eq}
 use Rattle.words.specs.Words.{wordAt, fourBytes, Bytes}
 use Rattle.words.specs.Contracts.{written}
 
@@ -107,7 +107,36 @@ made-word b at bytes h =
         ap (λ j. take 4 (drop j b)) (sym (add-zero at))
         ∙ rw (step 0 3 (omega arith), step 1 2 (omega arith), step 2 1 (omega arith), step 3 0 (omega arith), add-zero)
 
--- ---- four bytes in their places, one after the other
+-- ---- bytes in their places, one after the other
+
+pub sets-written : (vs l : List ℕ) (at : ℕ) → at + length vs ≤ length l → sets l at vs ≡ written l at vs
+sets-written vs l at h = sets-eq vs l at h ∙ append-assoc (take at l) vs (drop (at + length vs) l)
+
+pub length-written : (l : List ℕ) (at : ℕ) (x : List ℕ) → at + length x ≤ length l → length (written l at x) ≡ length l
+length-written l at x h =
+    length-append (take at l) (x ++ drop (at + length x) l)
+    ∙ ap₂ _+_ (length-take-le at l (omega arith)) (length-append x (drop (at + length x) l))
+    ∙ omega (arith, length-drop (at + length x) l)
+
+-- Two parts, the second right behind the first.
+pub written-twice : (l : List ℕ) (at : ℕ) (x y : List ℕ) → at + length x ≤ length l
+    → written (written l at x) (at + length x) y ≡ written l at (x ++ y)
+written-twice l at x y h =
+    ap₂ (λ a b. a ++ (y ++ b))
+    (ap (take (at + length x)) split ∙ take-at (take at l ++ x) (drop (at + length x) l) (at + length x) front)
+    (ap (drop (at + length x + length y)) split ∙ ap (λ n. drop (n + length y) (take at l ++ x ++ drop (at + length x) l)) (sym front)
+    ∙ drop-append-add (take at l ++ x) (drop (at + length x) l) (length y) ∙ drop-drop (length y) (at + length x) l)
+    ∙ append-assoc (take at l) x _
+    ∙ ap (λ r. take at l ++ r) (sym (append-assoc x y _) ∙ ap (λ n. x ++ y ++ drop n l) behind)
+  where
+    split : written l at x ≡ take at l ++ x ++ drop (at + length x) l
+    split = sym (append-assoc (take at l) x (drop (at + length x) l))
+
+    front : length (take at l ++ x) ≡ at + length x
+    front = length-append (take at l) x ∙ ap (λ n. n + length x) (length-take-le at l (omega arith))
+
+    behind : at + length x + length y ≡ at + length (x ++ y)
+    behind = omega (arith, length-append x y)
 
 pub put-four : (l : List ℕ) (at a b c d : ℕ) → at + 3 < length l
     → set (set (set (set l at a) (at + 1) b) (at + 2) c) (at + 3) d ≡ written l at (a ∷ b ∷ c ∷ d ∷ [])
@@ -115,8 +144,7 @@ put-four l at a b c d h =
     let e₁ : at + 1 ≡ suc at = omega arith in
     let e₂ : at + 2 ≡ suc (suc at) = omega arith in
     let e₃ : at + 3 ≡ suc (suc (suc at)) = omega arith in
-    rw (e₁, e₂, e₃) (sets-eq (a ∷ b ∷ c ∷ d ∷ []) l at (omega arith))
-    ∙ append-assoc (take at l) (a ∷ b ∷ c ∷ d ∷ []) (drop (at + 4) l)
+    rw (e₁, e₂, e₃) (sets-written (a ∷ b ∷ c ∷ d ∷ []) l at (omega arith))
 
 -- Reading what was written.
 pub word-written : (l : List ℕ) (at n : ℕ) → n < 2 ^ 32 → at ≤ length l → wordAt (written l at (fourBytes n)) at ≡ n
