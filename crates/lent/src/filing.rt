@@ -16,7 +16,7 @@ pub struct Receipt {
 }
 
 // Whether a filing is stored, by its outcome.
-fn is_stored(outcome: Outcome) -> bool
+pub fn is_stored(outcome: Outcome) -> bool
     ensures { λ r. ⌜ r ≡ not (isRefused outcome) ⌝ }
 {
     match outcome {
