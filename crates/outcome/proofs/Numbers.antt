@@ -2,7 +2,7 @@
 use Prim.Native.Nat.{_<_}
 use native.Mathlib.Omega.{arith}
 use Rattle.outcome.specs.declared.Reason.{Reason}
-use Rattle.outcome.specs.declared.Reason.the-variants.{ModelLength, OutOfRange, UnusedNotZero, WeightOutOfRange, NotAscending, RowSumWrong, NoShape, NotDue, ValueOutOfRange, DeadNotZero, UpperTooSmall, LowerAboveUpper, LowerTooLarge, MeanTooSmall, NoModel, ModelHeld, NoDelivery, NotOfModel, NoBlock, TooManySteps}
+use Rattle.outcome.specs.declared.Reason.the-variants.{ModelLength, OutOfRange, UnusedNotZero, WeightOutOfRange, NotAscending, RowSumWrong, NoShape, NotDue, ValueOutOfRange, DeadNotZero, UpperTooSmall, LowerAboveUpper, LowerTooLarge, MeanTooSmall, NoModel, ModelHeld, NoDelivery, NotOfModel, NoBlock, TooManySteps, CounterLength, CounterRecord, CounterSum}
 use Rattle.outcome.specs.Reasons.{numberOf}
 
 in-range : (r : Reason) → (0 < numberOf r) × (numberOf r < 64)
@@ -26,6 +26,9 @@ in-range NoDelivery = omega arith
 in-range NotOfModel = omega arith
 in-range NoBlock = omega arith
 in-range TooManySteps = omega arith
+in-range CounterLength = omega arith
+in-range CounterRecord = omega arith
+in-range CounterSum = omega arith
 
 -- No reason has the number 0.
 pub number-some : (r : Reason) → 0 < numberOf r

@@ -1,7 +1,7 @@
--- The numbers of document 01 for the reasons ("Reasons found in the files, in order", "Reasons found in the register").
+-- The numbers of document 01 and of the requests for the reasons ("Reasons found in the files, in order", "Reasons found in the register").
 use Prim.Native.Nat.{ℕ}
 use Rattle.outcome.specs.declared.Reason.{Reason}
-use Rattle.outcome.specs.declared.Reason.the-variants.{ModelLength, OutOfRange, UnusedNotZero, WeightOutOfRange, NotAscending, RowSumWrong, NoShape, NotDue, ValueOutOfRange, DeadNotZero, UpperTooSmall, LowerAboveUpper, LowerTooLarge, MeanTooSmall, NoModel, ModelHeld, NoDelivery, NotOfModel, NoBlock, TooManySteps}
+use Rattle.outcome.specs.declared.Reason.the-variants.{ModelLength, OutOfRange, UnusedNotZero, WeightOutOfRange, NotAscending, RowSumWrong, NoShape, NotDue, ValueOutOfRange, DeadNotZero, UpperTooSmall, LowerAboveUpper, LowerTooLarge, MeanTooSmall, NoModel, ModelHeld, NoDelivery, NotOfModel, NoBlock, TooManySteps, CounterLength, CounterRecord, CounterSum}
 
 -- The number of a reason.
 abbrev pub numberOf : Reason → ℕ
@@ -23,7 +23,7 @@ numberOf UpperTooSmall = 24
 numberOf LowerAboveUpper = 25
 numberOf LowerTooLarge = 26
 numberOf MeanTooSmall = 27
--- The register, in the order in which these apply: no model held; a model filed while one is held; no delivery held; a state or symbol not of
+-- The register, in the order in which these apply: no model held; a model or a counter file filed while a model is held; no delivery held; a state or symbol not of
 -- the held model; no L or R block in the held delivery; more than three steps asked for (request A.1).
 numberOf NoModel = 40
 numberOf ModelHeld = 41
@@ -31,3 +31,7 @@ numberOf NoDelivery = 42
 numberOf NotOfModel = 44
 numberOf NoBlock = 43
 numberOf TooManySteps = 45
+-- A counter file (request A.2): its length; then of a record: a number out of range, a fourth byte not 0, or not above the record before; then a state's sum.
+numberOf CounterLength = 46
+numberOf CounterRecord = 47
+numberOf CounterSum = 48

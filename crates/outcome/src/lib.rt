@@ -28,6 +28,9 @@ pub enum Reason {
     NotOfModel,
     NoBlock,
     TooManySteps,
+    CounterLength,
+    CounterRecord,
+    CounterSum,
 }
 
 // What a check answers: accepted, or the first failing test's reason, place and shortfall.
@@ -65,6 +68,9 @@ pub fn number(reason: Reason) -> u32
         Reason::NotOfModel => 44,
         Reason::NoBlock => 43,
         Reason::TooManySteps => 45,
+        Reason::CounterLength => 46,
+        Reason::CounterRecord => 47,
+        Reason::CounterSum => 48,
     }
 }
 

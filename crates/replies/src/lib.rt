@@ -54,7 +54,7 @@ fn put_answer(out: &mut [u8], at: usize, answer: Answer) -> usize
     }
 }
 
-// The line of a filed model.
+// The line of a filed model or counter file.
 fn put_filed(out: &mut [u8], at: usize, outcome: Outcome) -> usize
     requires { ⌜ at + replyRoom ≤ length (now out) ⌝ }
     ensures { λ r. ⌜ Put (now (out .entry)) (now (out .exit)) at r (replyLine (modelReply outcome)) × (r ≤ at + replyRoom) ⌝ }
