@@ -1,0 +1,1 @@
+// Definitions and theorems only: see specs/ and proofs/.
