@@ -26,15 +26,21 @@ use Rattle.verdict.specs.Marks.{liveMark}
 use Rattle.verdict.specs.Verdict as verdict
 use Rattle.verdict.specs.Verdict.{numberTests, shapedTests, deliveryTests}
 use Rattle.certificate.specs.Margin.{marginOf}
+use Rattle.model.specs.Made.{madeModel}
+use Rattle.onecounter.specs.Pushing.{rulesFor}
+use Rattle.counter.specs.Records.{movesIn, byteIn, weightIn, statesIn}
+use Rattle.counter.specs.Moves.{moveOf, movesOf}
+use Rattle.counter.specs.Verdict.{wholeMoves, moveInRange, moveAscends, moveTests, stateSum, stateTests, counterTests, counterVerdict}
+use Rattle.counter.specs.Made.{counterModel}
 use Rattle.history.specs.Plain.{Event, lastModel, lastDelivery, sameUppers, plainReply, plainReplies}
-use Rattle.history.specs.Edges.{callOf, replyDue, AllReplied, Replied, emptyExchanges, modelExchanges, upperExchanges, lowerExchanges, meanExchanges, allExchanges, wideExchanges, shortExchanges}
+use Rattle.history.specs.Edges.{callOf, replyDue, AllReplied, Replied, emptyExchanges, modelExchanges, upperExchanges, lowerExchanges, meanExchanges, allExchanges, wideExchanges, shortExchanges, counterExchanges}
 use Rattle.history.proofs.Replies.{replies-as-plain}
 
 -- ---- computed
 
-computed : AllReplied [] emptyExchanges × AllReplied [] modelExchanges × AllReplied [] upperExchanges × AllReplied [] lowerExchanges × AllReplied [] meanExchanges × AllReplied [] allExchanges × AllReplied [] wideExchanges × AllReplied [] shortExchanges
-unfolding chanceFrom overRunsWithin overRuns lists flatMap after weigh first each wordAt sign sum sumTo leastTo fits overRow f meanSide mark isLive alive share shareAt margin recordsOf field weight greatestTo statesOf symbolsOf ruleOf listTo rulesOf rowOf rowSum wholeRecords rangeAt unusedAt weightAt ascends recordTests rowTests rowsTests modelTests modelVerdict byteOf valueAt meansFrom recordsIn longAs lowersOrMeans shapeOf uppersOf lowersOf meansOf eachEntry eachRow isDue inRange layout.recordTests deadTest upperTest belowTest lowerTest meanTest upperRecords lowerRecords meanRecords deadTests upperTests belowTests lowerTests meanTests layoutTests numberTests shapedTests deliveryTests verdict.verdict marginOf liveMark allTo lastModel lastDelivery sameUppers plainReply
-computed = ((refl, (refl, (refl, (refl, (refl, (refl, (refl, (refl, (refl, (refl, (refl, tt))))))))))), (refl, (refl, (refl, (refl, (refl, (refl, (refl, (refl, (refl, (refl, (refl, (refl, (refl, tt))))))))))))), (refl, (refl, (refl, (refl, (refl, (refl, (refl, (refl, (refl, (refl, (refl, (refl, (refl, (refl, (refl, (refl, (refl, (refl, tt)))))))))))))))))), (refl, (refl, (refl, (refl, (refl, (refl, tt)))))), (refl, (refl, (refl, (refl, (refl, (refl, (refl, tt))))))), (refl, (refl, (refl, (refl, (refl, (refl, (refl, (refl, (refl, (refl, (refl, (refl, (refl, (refl, (refl, (refl, tt)))))))))))))))), (refl, (refl, (refl, (refl, (refl, (refl, (refl, (refl, (refl, (refl, (refl, (refl, tt)))))))))))), (refl, (refl, (refl, (refl, (refl, (refl, (refl, (refl, (refl, (refl, (refl, (refl, (refl, (refl, (refl, (refl, (refl, (refl, (refl, (refl, (refl, (refl, (refl, (refl, (refl, (refl, (refl, (refl, (refl, (refl, (refl, (refl, (refl, (refl, tt)))))))))))))))))))))))))))))))))))
+computed : AllReplied [] emptyExchanges × AllReplied [] modelExchanges × AllReplied [] upperExchanges × AllReplied [] lowerExchanges × AllReplied [] meanExchanges × AllReplied [] allExchanges × AllReplied [] wideExchanges × AllReplied [] shortExchanges × AllReplied [] counterExchanges
+unfolding chanceFrom overRunsWithin overRuns lists flatMap after weigh first each wordAt sign sum sumTo leastTo fits overRow f meanSide mark isLive alive share shareAt margin recordsOf field weight greatestTo statesOf symbolsOf ruleOf listTo rulesOf rowOf rowSum wholeRecords rangeAt unusedAt weightAt ascends recordTests rowTests rowsTests modelTests modelVerdict byteOf valueAt meansFrom recordsIn longAs lowersOrMeans shapeOf uppersOf lowersOf meansOf eachEntry eachRow isDue inRange layout.recordTests deadTest upperTest belowTest lowerTest meanTest upperRecords lowerRecords meanRecords deadTests upperTests belowTests lowerTests meanTests layoutTests numberTests shapedTests deliveryTests verdict.verdict marginOf liveMark allTo lastModel lastDelivery sameUppers plainReply wholeMoves moveInRange moveAscends moveTests stateSum stateTests counterTests counterVerdict movesIn byteIn weightIn statesIn moveOf movesOf rulesFor madeModel counterModel
+computed = ((refl, (refl, (refl, (refl, (refl, (refl, (refl, (refl, (refl, (refl, (refl, tt))))))))))), (refl, (refl, (refl, (refl, (refl, (refl, (refl, (refl, (refl, (refl, (refl, (refl, (refl, tt))))))))))))), (refl, (refl, (refl, (refl, (refl, (refl, (refl, (refl, (refl, (refl, (refl, (refl, (refl, (refl, (refl, (refl, (refl, (refl, tt)))))))))))))))))), (refl, (refl, (refl, (refl, (refl, (refl, tt)))))), (refl, (refl, (refl, (refl, (refl, (refl, (refl, tt))))))), (refl, (refl, (refl, (refl, (refl, (refl, (refl, (refl, (refl, (refl, (refl, (refl, (refl, (refl, (refl, (refl, tt)))))))))))))))), (refl, (refl, (refl, (refl, (refl, (refl, (refl, (refl, (refl, (refl, (refl, (refl, tt)))))))))))), (refl, (refl, (refl, (refl, (refl, (refl, (refl, (refl, (refl, (refl, (refl, (refl, (refl, (refl, (refl, (refl, (refl, (refl, (refl, (refl, (refl, (refl, (refl, (refl, (refl, (refl, (refl, (refl, (refl, (refl, (refl, (refl, (refl, (refl, tt)))))))))))))))))))))))))))))))))), (refl, (refl, (refl, (refl, (refl, (refl, (refl, (refl, (refl, (refl, (refl, (refl, (refl, (refl, (refl, (refl, (refl, (refl, (refl, (refl, (refl, (refl, (refl, tt))))))))))))))))))))))))
 
 -- ---- so does a register
 
@@ -46,7 +52,7 @@ as-due past (e ∷ es) all = rw (all .0) (ap (λ rs. e .reply ∷ rs) (as-due (e
 replied : (es : List Event) → AllReplied [] es → Replied es
 replied es all = replies-as-plain (map callOf es) ∙ as-due [] es all
 
-pub exchanges-replied : Replied emptyExchanges × Replied modelExchanges × Replied upperExchanges × Replied lowerExchanges × Replied meanExchanges × Replied allExchanges × Replied wideExchanges × Replied shortExchanges
+pub exchanges-replied : Replied emptyExchanges × Replied modelExchanges × Replied upperExchanges × Replied lowerExchanges × Replied meanExchanges × Replied allExchanges × Replied wideExchanges × Replied shortExchanges × Replied counterExchanges
 exchanges-replied = (
   replied emptyExchanges (computed .0),
   replied modelExchanges (computed .1),
@@ -56,4 +62,5 @@ exchanges-replied = (
   replied allExchanges (computed .5),
   replied wideExchanges (computed .6),
   replied shortExchanges (computed .7),
+  replied counterExchanges (computed .8),
 )

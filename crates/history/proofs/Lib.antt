@@ -5,5 +5,7 @@ pub mod Plain
 pub mod Replies
 pub mod Named
 pub mod Shown
+pub mod Passages
 pub mod Mission
+pub mod QueueHeld
 pub mod Edges

@@ -5,19 +5,23 @@ use Rattle.calls.specs.Calls.{Call}
 use Rattle.history.specs.Run.{registerAfter}
 use Rattle.history.specs.Mission.{Mission}
 use Rattle.history.proofs.Refusals.{refused-keeps}
-use Rattle.history.proofs.Plain.{holds-pair, as-plain-pair, model-taken, delivery-taken}
+use Rattle.history.proofs.Plain.{holds-pair, as-plain-pair, model-taken, counter-taken, counter-held, delivery-taken}
 use Rattle.history.proofs.Replies.{replies-as-plain}
-use Rattle.history.proofs.Named.{number-listed, model-named, delivery-named}
+use Rattle.history.proofs.Named.{number-listed, model-named, counter-named, delivery-named}
 use Rattle.history.proofs.Shown.{upper-shown, lower-shown, mean-shown, live-shown, short-shown, short-under-upper}
+use Rattle.history.proofs.Passages.{passage-upper-shown, passage-lower-shown, passage-mean-shown, passage-short-shown}
 
 pub mission : (cs : List Call) → Mission cs
 mission cs = record {
   numbers-listed = number-listed cs;
   refusals-keep = refused-keeps (registerAfter cs);
   models-taken = model-taken cs;
+  counters-taken = counter-taken cs;
+  counters-held = counter-held cs;
   deliveries-taken = delivery-taken cs;
   deliveries-marked = marked (registerAfter cs);
   models-named = model-named cs;
+  counters-named = counter-named cs;
   deliveries-named = delivery-named cs;
   pair-held = holds-pair cs;
   pair-shown = as-plain-pair cs;
@@ -28,4 +32,8 @@ mission cs = record {
   live-marks-true = live-shown cs;
   short-chances-true = short-shown cs;
   short-chances-under-uppers = short-under-upper cs;
+  passage-uppers-true = passage-upper-shown cs;
+  passage-lowers-true = passage-lower-shown cs;
+  passage-means-true = passage-mean-shown cs;
+  short-passages-true = passage-short-shown cs;
 }

@@ -4,7 +4,7 @@ use Prim.Native.Nat.{ℕ, zero, suc, _+_, _≤_, _<_}
 use native.Mathlib.Omega.{arith}
 use mathlib.Core.Bool.{Bool, true, false, cond, false≢true, _&&_}
 use mathlib.Core.List.{List, [], _∷_}
-use mathlib.Core.Logic.{_↔_, inl, inr}
+use mathlib.Core.Logic.{inl, inr}
 use mathlib.Core.Option.{Option, none, some}
 use mathlib.Core.Path.{_≡_, refl, sym, ap, _∙_}
 use lib.Dec.{eqb, ltb, leb}
@@ -15,7 +15,7 @@ use Rattle.outcome.specs.declared.Reason.{Reason}
 use Rattle.outcome.specs.declared.Outcome.{Outcome}
 use Rattle.outcome.specs.declared.Outcome.the-variants.{Accepted, Refused}
 use Rattle.outcome.specs.Reasons.{numberOf}
-use Rattle.outcome.specs.Tests.{Test, refusal, first, FirstFailure}
+use Rattle.outcome.specs.Tests.{Test, first}
 use Rattle.outcome.proofs.Tests.{first-after, first-failure, refused-exactly}
 use Rattle.model.specs.Records.{statesOf, symbolsOf}
 use Rattle.wellformed.specs.Verdict.{modelTests, modelVerdict}
@@ -31,12 +31,14 @@ use Rattle.verdict.specs.Marks.{liveMark}
 use Rattle.verdict.specs.Verdict.{deliveryTests, verdict}
 use Rattle.verdict.proofs.Places.{delivery-number}
 use Rattle.certificate.specs.Margin.{marginOf}
-use Rattle.calls.specs.Calls.{Call, clear, fileModel, fileDelivery, upper, lower, meanSteps, margin, live, within, Reply, accepted, value, refused, taken}
+use Rattle.counter.specs.Verdict.{counterTests, counterVerdict}
+use Rattle.counter.proofs.Places.{counter-number}
+use Rattle.calls.specs.Calls.{Call, clear, fileModel, fileCounter, fileDelivery, upper, lower, meanSteps, margin, live, within, Reply, accepted, value, refused, taken}
 use Rattle.calls.specs.Calls as Calls
 use Rattle.history.specs.Plain.{lastModel, lastDelivery, ofModel, ofDelivery, ifNone, ofBlock, byVerdict, markOf, plainReply}
 use Rattle.history.specs.Run.{replyTo, history}
-use Rattle.history.specs.Mission.{listed, NumberListed, Names, Holds, ModelNamed, DeliveryNamed}
-use Rattle.history.proofs.Pairs.{Right, model-held-right, mark-taken}
+use Rattle.history.specs.Mission.{listed, NumberListed, Names, ModelNamed, CounterNamed, DeliveryNamed}
+use Rattle.history.proofs.Pairs.{model-held-right, mark-taken}
 use Rattle.history.proofs.Plain.{right-pair, as-plain-pair}
 
 -- ---- numbers in a list
@@ -83,6 +85,12 @@ model-named cs b n i k free =
     let same : replyTo cs (fileModel b) ≡ byVerdict (first (modelTests b)) accepted = as-plain-pair cs (fileModel b) ∙ rw free in
     (λ e. named (modelTests b) accepted refl (sym same ∙ e), λ x. same ∙ names (modelTests b) accepted refl x)
 
+pub counter-named : (cs : List Call) → CounterNamed cs
+unfolding plainReply counterVerdict
+counter-named cs c n i k free =
+    let same : replyTo cs (fileCounter c) ≡ byVerdict (first (counterTests c)) accepted = as-plain-pair cs (fileCounter c) ∙ rw free in
+    (λ e. named (counterTests c) accepted refl (sym same ∙ e), λ x. same ∙ names (counterTests c) accepted refl x)
+
 pub delivery-named : (cs : List Call) → DeliveryNamed cs
 unfolding plainReply
 delivery-named cs b d n i k held =
@@ -124,6 +132,13 @@ module _ {n i : ℕ} {k : ℤ} where
       inr (in-from 6 10 n (rw number at least) (omega (arith, rw number at most)))
   of-file (some a) b e = inl cc
 
+  of-counter : (m : Option (List ℕ)) (c : List ℕ) → ifNone m (byVerdict (counterVerdict c) accepted) ≡ refused n i k → In n (listed (fileCounter c))
+  of-counter none c e =
+      let (x, is, number) = by-verdict (counterVerdict c) accepted refl e in
+      let (least, most) = counter-number c x i k is in
+      inr (in-from 3 46 n (rw number at least) (omega (arith, rw number at most)))
+  of-counter (some a) c e = inl cc
+
   of-delivered : (b d : List ℕ) (y : Option (List ℕ)) → modelVerdict b ≡ Accepted → byVerdict (verdict b d) (markOf b y d) ≡ refused n i k
       → In n (from 8 20)
   of-delivered b d y is e =
@@ -135,6 +150,7 @@ pub number-listed : (cs : List Call) → NumberListed cs
 unfolding plainReply
 number-listed cs clear n i k e = let z : _≡_ {A = ℕ} 0 1 = let same = as-plain-pair cs clear in cc in absurd (omega arith)
 number-listed cs (fileModel b) n i k e = of-file (lastModel (history cs)) b (sym (as-plain-pair cs (fileModel b)) ∙ e)
+number-listed cs (fileCounter c) n i k e = of-counter (lastModel (history cs)) c (sym (as-plain-pair cs (fileCounter c)) ∙ e)
 number-listed cs (fileDelivery d) n i k e =
     let y = lastDelivery (history cs) in
     of-model (lastModel (history cs)) (λ b. byVerdict (verdict b d) (markOf b y d)) (from 8 20)

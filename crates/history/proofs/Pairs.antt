@@ -40,8 +40,13 @@ use Rattle.filing.specs.Known.{sameTo, markBy}
 use Rattle.filing.proofs.Known.{same-found}
 use Rattle.register.specs.Filing.{withModel, modelBy, deliveryBy, received, shapeFor}
 use Rattle.calls.specs.Answers.{answered}
-use Rattle.register.specs.Questions.{upperIn, lowerIn, meanIn, marginIn, liveIn, withinIn}
-use Rattle.calls.specs.Calls.{Call, clear, fileModel, fileDelivery, upper, lower, meanSteps, margin, live, within, Reply, accepted, known, new, value, refusal, taken}
+use Rattle.register.specs.Questions.{hasModel, upperIn, lowerIn, meanIn, marginIn, liveIn, withinIn}
+use Rattle.counter.specs.Verdict.{counterVerdict}
+use Rattle.counter.specs.Made.{counterModel}
+use Rattle.counter.specs.Filing.{counterOutcome, counterBy}
+use Rattle.counter.specs.Filing as Counter
+use Rattle.counter.proofs.Made.{made-accepted}
+use Rattle.calls.specs.Calls.{Call, clear, fileModel, fileCounter, fileDelivery, upper, lower, meanSteps, margin, live, within, Reply, accepted, known, new, value, refusal, taken}
 use Rattle.history.specs.Plain.{Pair, ofModel, ofDelivery, ifNone, atRow, atEntry, ofBlock, toThree, byVerdict, sameRecord, sameUppers, markOf, modelAfter, deliveryAfter, plainReply}
 use Rattle.calls.specs.Answers.{answeredOr, modelReply, markReply, deliveryReply, answerReply}
 use Rattle.outcome.specs.declared.Reason.the-variants.{TooManySteps}
@@ -291,6 +296,16 @@ module _ (y : Option (List ℕ)) where
       go (Refused x i k) = refl
   model-filed (some a) right b = rw (model-held a y right)
 
+  counter-filed : (m : Option (List ℕ)) → Right m y → (c : List ℕ)
+      → modelReply (Counter.fileCounter (holding m y) c .outcome) ≡ ifNone m (byVerdict (counterVerdict c) accepted)
+  unfolding Counter.fileCounter counterOutcome hasModel
+  counter-filed none right c = rw cleared-holds (go (counterVerdict c))
+    where
+      go : (o : Outcome) → modelReply (counterBy o Filing.cleared c .outcome) ≡ byVerdict o accepted
+      go Accepted = refl
+      go (Refused x i k) = refl
+  counter-filed (some a) right c = rw (model-held a y right)
+
   delivery-filed : (m : Option (List ℕ)) → Right m y → (d : List ℕ)
       → deliveryReply (Filing.fileDelivery (holding m y) d .outcome) (Filing.fileDelivery (holding m y) d .mark)
       ≡ ofModel m (λ b. byVerdict (verdict b d) (markOf b y d))
@@ -348,6 +363,7 @@ pub reply-of-pair : (x : Pair) → Right (x .model) (x .delivery) → (c : Call)
 unfolding replyOf plainReply registerOf
 reply-of-pair x right clear = refl
 reply-of-pair x right (fileModel b) = model-filed (x .delivery) (x .model) right b
+reply-of-pair x right (fileCounter c) = counter-filed (x .delivery) (x .model) right c
 reply-of-pair x right (fileDelivery d) = delivery-filed (x .delivery) (x .model) right d
 reply-of-pair x right (upper p z q) = upper-of-pair (x .model) (x .delivery) right p z q
 reply-of-pair x right (lower p z q) = lower-of-pair (x .model) (x .delivery) right p z q
@@ -384,6 +400,22 @@ module _ (y : Option (List ℕ)) where
       go (Refused x i k) e = (refl, right)
   model-after (some a) right b = (rw (model-held a y right), right)
 
+  -- The model that an accepted counter file makes is accepted.
+  counter-after : (m : Option (List ℕ)) → Right m y → (c : List ℕ) →
+      let t = taken (ifNone m (byVerdict (counterVerdict c) accepted)) in
+      (Counter.fileCounter (holding m y) c .register ≡ holding (cond t (some (counterModel c)) m) (cond t none y))
+      × Right (cond t (some (counterModel c)) m) (cond t none y)
+  unfolding Counter.fileCounter counterOutcome hasModel
+  counter-after none right c = rw cleared-holds (go (counterVerdict c) refl)
+    where
+      go : (o : Outcome) → counterVerdict c ≡ o →
+          let t = taken (byVerdict o accepted) in
+          (counterBy o Filing.cleared c .register ≡ holding (cond t (some (counterModel c)) none) (cond t none y))
+          × Right (cond t (some (counterModel c)) none) (cond t none y)
+      go Accepted e = (refl, made-accepted c e)
+      go (Refused x i k) e = (refl, right)
+  counter-after (some a) right c = (rw (model-held a y right), right)
+
   delivery-after : (m : Option (List ℕ)) → Right m y → (d : List ℕ) →
       let t = taken (ofModel m (λ b. byVerdict (verdict b d) (markOf b y d))) in
       (Filing.fileDelivery (holding m y) d .register ≡ holding m (cond t (some d) y)) × Right m (cond t (some d) y)
@@ -401,6 +433,7 @@ pub next-of-pair : (x : Pair) → Right (x .model) (x .delivery) → (c : Call) 
 unfolding afterCall plainReply registerOf
 next-of-pair x right clear = record { held = refl; right = refl }
 next-of-pair x right (fileModel b) = let (held, again) = model-after (x .delivery) (x .model) right b in record { held = held; right = again }
+next-of-pair x right (fileCounter c) = let (held, again) = counter-after (x .delivery) (x .model) right c in record { held = held; right = again }
 next-of-pair x right (fileDelivery d) = let (held, again) = delivery-after (x .delivery) (x .model) right d in record { held = held; right = again }
 next-of-pair x right (upper p z q) = record { held = refl; right = right }
 next-of-pair x right (lower p z q) = record { held = refl; right = right }

@@ -13,10 +13,13 @@ use Rattle.wellformed.specs.Verdict.{modelVerdict}
 use Rattle.wellformed.proofs.Accepted.{model-accepted}
 use Rattle.verdict.specs.Verdict.{verdict}
 use Rattle.verdict.proofs.Accepted.{delivery-accepted}
-use Rattle.calls.specs.Calls.{Call, fileModel, fileDelivery, accepted, taken}
+use Rattle.counter.specs.Verdict.{counterVerdict}
+use Rattle.counter.proofs.Accepted.{counter-accepted}
+use Rattle.counter.proofs.Made.{made-right}
+use Rattle.calls.specs.Calls.{Call, fileModel, fileCounter, fileDelivery, accepted, taken}
 use Rattle.history.specs.Plain.{lastModel, lastDelivery, pairOf, ofModel, ifNone, byVerdict, markOf, plainReply}
 use Rattle.history.specs.Run.{afterCall, replyOf, registerAfter, history, registerOf}
-use Rattle.history.specs.Mission.{HoldsPair, AsPlainPair, ModelTaken, DeliveryTaken}
+use Rattle.history.specs.Mission.{HoldsPair, AsPlainPair, ModelTaken, CounterTaken, CounterHeld, DeliveryTaken}
 use Rattle.history.proofs.Pairs.{Right, mark-taken, reply-of-pair, next-of-pair}
 
 -- The register holds the pair, and its files are accepted.
@@ -68,6 +71,21 @@ model-taken cs b =
       λ e. let (free, is) = from (sym same ∙ e) in (free, model-accepted b .0 is),
       λ h. same ∙ to (h .0, model-accepted b .1 (h .1)),
     )
+
+pub counter-taken : (cs : List Call) → CounterTaken cs
+unfolding plainReply
+counter-taken cs c =
+    let (from, to) = model-by (lastModel (history cs)) (counterVerdict c) in
+    let same = as-plain-pair cs (fileCounter c) in (
+      λ e. let (free, is) = from (sym same ∙ e) in (free, counter-accepted c .0 is),
+      λ h. same ∙ to (h .0, counter-accepted c .1 (h .1)),
+    )
+
+pub counter-held : (cs : List Call) → CounterHeld cs
+unfolding history lastModel
+counter-held cs c e =
+    let file = counter-taken cs c .0 e .1 in
+    (record { file = file; held = rw e }, made-right c file)
 
 delivery-by : (m y : Option (List ℕ)) (d : List ℕ)
     → (taken (ofModel m (λ b. byVerdict (verdict b d) (markOf b y d))) ≡ true) ↔ ((b : List ℕ) × (m ≡ some b) × (verdict b d ≡ Accepted))

@@ -1,14 +1,16 @@
--- Calls on a register in the order of time, each with the reply that is due, by document 01's numbers: the reasons 40 to 45 and their order, the
--- marks, refusals that change nothing, and clearing. The files are those of the edges of crate certificate.
+-- Calls on a register in the order of time, each with the reply that is due, by the numbers of document 01 and the requests: the reasons 40 to 48 and their order, the
+-- marks, refusals that change nothing, and clearing. The files are those of the edges of crates certificate and counter.
 use Prim.Native.Nat.{ℕ}
 use mathlib.Core.List.{List, [], _∷_, _++_, map}
 use mathlib.Core.Path.{_≡_}
-use lib.IntN.{negsuc}
+use lib.IntN.{pos, negsuc}
 use Rattle.model.specs.W.{wFile}
 use Rattle.delivery.specs.Made.{deliveryRecord}
+use Rattle.counter.specs.Made.{counterRecord}
+use Rattle.counter.specs.Edges.{queueFile}
 use Rattle.certificate.specs.Edges.{oneRule, wDelivery, allToZero, fourRows}
 use Rattle.register.specs.Filing as Filing
-use Rattle.calls.specs.Calls.{Call, clear, fileModel, fileDelivery, upper, lower, meanSteps, margin, live, within, Reply, cleared, accepted, known, new, value, refused, refusal}
+use Rattle.calls.specs.Calls.{Call, clear, fileModel, fileCounter, fileDelivery, upper, lower, meanSteps, margin, live, within, Reply, cleared, accepted, known, new, value, refused, refusal}
 use Rattle.history.specs.Plain.{Event, pairOf, plainReply}
 use Rattle.history.specs.Run.{replies}
 
@@ -204,4 +206,42 @@ shortExchanges =
     ∷ due clear cleared
     ∷ due (within 3 0 0 0) (refusal 40)
     ∷ due (within 4 0 0 0) (refusal 40)
+    ∷ []
+
+-- A delivery for the queue of request A.2's table, with all blocks.
+abbrev pub queueDelivery : List ℕ
+queueDelivery =
+    deliveryRecord 85 0 0 0 737280 ++ (deliveryRecord 85 0 0 1 368640
+    ++ (deliveryRecord 85 1 0 0 229376 ++ (deliveryRecord 85 1 0 1 884736
+    ++ (deliveryRecord 76 0 0 0 688128 ++ (deliveryRecord 76 0 0 1 311296
+    ++ (deliveryRecord 76 1 0 0 172032 ++ (deliveryRecord 76 1 0 1 811008
+    ++ (deliveryRecord 82 0 0 0 2048 ++ deliveryRecord 82 1 0 0 2560))))))))
+
+-- Counter files (request A.2): 46, 47 and 48 with their places, after which nothing is held; 41 before the file is read, whichever call filed the model; the
+-- model that the queue makes has one symbol, and a delivery for it is accepted; a clearing drops it.
+abbrev pub counterExchanges : List Event
+counterExchanges =
+    due (fileCounter []) (refusal 46)
+    ∷ due (fileCounter (counterRecord 0 0 0 0 65536 ++ counterRecord 0 0 0 0 65536)) (refused 47 1 (pos 0))
+    ∷ due (fileCounter (counterRecord 0 1 0 0 65536)) (refused 48 1 (pos 0))
+    ∷ due (live 0 0 0) (refusal 40)
+    ∷ due (fileCounter queueFile) accepted
+    ∷ due (fileCounter []) (refusal 41)
+    ∷ due (fileCounter queueFile) (refusal 41)
+    ∷ due (fileModel wFile) (refusal 41)
+    ∷ due (live 1 0 0) (value 1)
+    ∷ due (live 0 1 0) (refusal 44)
+    ∷ due (within 3 0 0 0) (value 162727720910848)
+    ∷ due (within 3 1 0 0) (value 17592186044416)
+    ∷ due (upper 0 0 0) (refusal 42)
+    ∷ due (fileDelivery queueDelivery) new
+    ∷ due (upper 0 0 1) (value 368640)
+    ∷ due (lower 1 0 0) (value 172032)
+    ∷ due (meanSteps 1 0) (value 2560)
+    ∷ due margin (value 4968)
+    ∷ due clear cleared
+    ∷ due (upper 0 0 1) (refusal 40)
+    ∷ due (fileModel wFile) accepted
+    ∷ due (fileCounter queueFile) (refusal 41)
+    ∷ due (live 1 0 0) (value 0)
     ∷ []

@@ -18,18 +18,25 @@ use Rattle.model.specs.Accepted.{ModelFile}
 use Rattle.wellformed.specs.Verdict.{modelTests}
 use Rattle.verdict.specs.Verdict.{deliveryTests}
 use Rattle.verdict.specs.Accepted.{RightFiles}
+use Rattle.onecounter.specs.Passage.{firstPassage}
+use Rattle.onecounter.specs.Promised.{PassageUpper, PassageLower, PassageMean}
+use Rattle.counter.specs.Moves.{movesOf}
+use Rattle.counter.specs.Verdict.{counterTests}
+use Rattle.counter.specs.Accepted.{CounterFile}
+use Rattle.counter.specs.Made.{counterModel}
 use Rattle.register.specs.declared.Register.{Register}
 use Rattle.register.specs.Filing.{cleared, Marked}
-use Rattle.calls.specs.Calls.{Call, clear, fileModel, fileDelivery, upper, lower, meanSteps, margin, live, within, accepted, value, refused, taken}
+use Rattle.calls.specs.Calls.{Call, clear, fileModel, fileCounter, fileDelivery, upper, lower, meanSteps, margin, live, within, accepted, value, refused, taken}
 use Rattle.history.specs.Plain.{lastModel, pairOf, plainReply, plainReplies}
 use Rattle.history.specs.Run.{afterCall, replyOf, registerAfter, replyTo, history, replies, registerOf}
 
 -- ---- point 1
 
--- The numbers that document 01 lists for a call: those of the register in their order, then those of the file.
+-- The numbers that document 01 and the requests list for a call: those of the register in their order, then those of the file.
 abbrev pub listed : Call → List ℕ
 listed clear = []
 listed (fileModel b) = 41 ∷ 10 ∷ 11 ∷ 12 ∷ 13 ∷ 14 ∷ 15 ∷ []
+listed (fileCounter c) = 41 ∷ 46 ∷ 47 ∷ 48 ∷ []
 listed (fileDelivery d) = 40 ∷ 20 ∷ 21 ∷ 22 ∷ 23 ∷ 24 ∷ 25 ∷ 26 ∷ 27 ∷ []
 listed (upper p z q) = 40 ∷ 42 ∷ 44 ∷ []
 listed (lower p z q) = 40 ∷ 42 ∷ 44 ∷ 43 ∷ []
@@ -60,6 +67,19 @@ ModelTaken cs = (b : List ℕ) → (replyTo cs (fileModel b) ≡ accepted) ↔ (
 abbrev pub DeliveryTaken : List Call → Type 0
 DeliveryTaken cs = (d : List ℕ) → (taken (replyTo cs (fileDelivery d)) ≡ true) ↔ ((b : List ℕ) × Holds cs b × RightFiles b d)
 
+-- A counter file is accepted exactly where no model is held and request A.2's rules accept it.
+abbrev pub CounterTaken : List Call → Type 0
+CounterTaken cs = (c : List ℕ) → (replyTo cs (fileCounter c) ≡ accepted) ↔ ((lastModel (history cs) ≡ none) × CounterFile c)
+
+-- The model that is held is the one that the counter file c makes, whichever call filed it.
+pub record HoldsCounter (cs : List Call) (c : List ℕ) : Type 0 where
+  pub file : CounterFile c
+  pub held : Holds cs (counterModel c)
+
+-- After an accepted counter file the model that it makes is held, and that is a model file: nothing more can fail.
+abbrev pub CounterHeld : List Call → Type 0
+CounterHeld cs = (c : List ℕ) → replyTo cs (fileCounter c) ≡ accepted → HoldsCounter (fileCounter c ∷ cs) c × ModelFile (counterModel c)
+
 -- A refusal that names the first of the tests that fails: its reason's number, its place and its shortfall.
 pub record Names (ts : List Test) (number place : ℕ) (shortfall : ℤ) : Type 0 where
   pub test : Test
@@ -68,11 +88,16 @@ pub record Names (ts : List Test) (number place : ℕ) (shortfall : ℤ) : Type 
   pub place-named : test .place ≡ place
   pub shortfall-named : test .shortfall ≡ shortfall
 
--- "Otherwise the first failure in the fixed order is named": of a model where none is held, and of a delivery for the held model.
+-- "Otherwise the first failure in the fixed order is named": of a model and of a counter file where no model is held, and of a delivery for the held model.
 abbrev pub ModelNamed : List Call → Type 0
 ModelNamed cs =
     (b : List ℕ) (number place : ℕ) (shortfall : ℤ) → lastModel (history cs) ≡ none
     → (replyTo cs (fileModel b) ≡ refused number place shortfall) ↔ Names (modelTests b) number place shortfall
+
+abbrev pub CounterNamed : List Call → Type 0
+CounterNamed cs =
+    (c : List ℕ) (number place : ℕ) (shortfall : ℤ) → lastModel (history cs) ≡ none
+    → (replyTo cs (fileCounter c) ≡ refused number place shortfall) ↔ Names (counterTests c) number place shortfall
 
 abbrev pub DeliveryNamed : List Call → Type 0
 DeliveryNamed cs =
@@ -128,6 +153,30 @@ abbrev pub ShortUnderUpper : List Call → Type 0
 ShortUnderUpper cs =
     (n p z q c u : ℕ) → replyTo cs (within n p z q) ≡ value c → replyTo cs (upper p z q) ≡ value u → AtMostUpper n c u
 
+-- ---- point 3, where the held model is the one that a counter file makes (request A.2): uppers, lowers and short chances shown of the entry
+-- (u, 0, v), and mean steps of the row (u, 0), are true of first passage to zero, in v, from u at the count 1, by the runs of the machine that the file says
+
+abbrev pub PassageUpperShown : List Call → Type 0
+PassageUpperShown cs = (c : List ℕ) (u v a : ℕ) → HoldsCounter cs c → replyTo cs (upper u 0 v) ≡ value a → PassageUpper (movesOf c) u v a
+
+-- For a lower, with the upper and the margin that the questions on them answer.
+pub record PassageLowerHeld (cs : List Call) (c : List ℕ) (u v l : ℕ) : Type 0 where
+  pub upper-answered : ℕ
+  pub margin-answered : ℕ
+  pub upper-asked : replyTo cs (upper u 0 v) ≡ value upper-answered
+  pub margin-asked : replyTo cs margin ≡ value margin-answered
+  pub holds : PassageLower (movesOf c) u v l upper-answered margin-answered
+
+abbrev pub PassageLowerShown : List Call → Type 0
+PassageLowerShown cs = (c : List ℕ) (u v l : ℕ) → HoldsCounter cs c → replyTo cs (lower u 0 v) ≡ value l → PassageLowerHeld cs c u v l
+
+abbrev pub PassageMeanShown : List Call → Type 0
+PassageMeanShown cs = (c : List ℕ) (u r : ℕ) → HoldsCounter cs c → replyTo cs (meanSteps u 0) ≡ value r → PassageMean (movesOf c) u r
+
+abbrev pub PassageShortShown : List Call → Type 0
+PassageShortShown cs =
+    (c : List ℕ) (n u v x : ℕ) → HoldsCounter cs c → replyTo cs (within n u 0 v) ≡ value x → x ≡ firstPassage (movesOf c) n u v
+
 -- ---- the mission, point by point
 
 pub record Mission (cs : List Call) : Type 0 where
@@ -135,12 +184,16 @@ pub record Mission (cs : List Call) : Type 0 where
   -- contract equates a function that is proved to return with them. "Bad input gets its listed number; a refused call changes nothing."
   pub numbers-listed : NumberListed cs
   pub refusals-keep : (c : Call) → RefusedKeeps (registerAfter cs) c
-  -- 2. "Acceptance is exactly document 01's rules, in exact arithmetic", and an accepted delivery is marked, a refused one is not;
+  -- 2. "Acceptance is exactly document 01's rules, in exact arithmetic", of counter files request A.2's, and then the model that is made is held; an accepted
+  -- delivery is marked, a refused one is not;
   pub models-taken : ModelTaken cs
+  pub counters-taken : CounterTaken cs
+  pub counters-held : CounterHeld cs
   pub deliveries-taken : DeliveryTaken cs
   pub deliveries-marked : (d : List ℕ) → Marked (registerAfter cs) d
   -- "otherwise the first failure in the fixed order is named."
   pub models-named : ModelNamed cs
+  pub counters-named : CounterNamed cs
   pub deliveries-named : DeliveryNamed cs
   -- "The register shows the files last accepted since it was cleared and no others."
   pub pair-held : HoldsPair cs
@@ -155,3 +208,8 @@ pub record Mission (cs : List Call) : Type 0 where
   -- So are the chances of short runs, and they keep to the uppers (request A.1).
   pub short-chances-true : ShortShown cs
   pub short-chances-under-uppers : ShortUnderUpper cs
+  -- Where the held model is the one that a counter file makes, uppers, lowers, mean steps and short chances are true of first passage to zero (request A.2).
+  pub passage-uppers-true : PassageUpperShown cs
+  pub passage-lowers-true : PassageLowerShown cs
+  pub passage-means-true : PassageMeanShown cs
+  pub short-passages-true : PassageShortShown cs

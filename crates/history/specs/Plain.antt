@@ -23,7 +23,9 @@ use Rattle.delivery.specs.Numbers.{uppersOf, lowersOf, meansOf}
 use Rattle.verdict.specs.Marks.{liveMark}
 use Rattle.verdict.specs.Verdict.{verdict}
 use Rattle.certificate.specs.Margin.{marginOf}
-use Rattle.calls.specs.Calls.{Call, clear, fileModel, fileDelivery, upper, lower, meanSteps, margin, live, within, Reply, cleared, accepted, known, new, value, refused, refusal, taken}
+use Rattle.counter.specs.Verdict.{counterVerdict}
+use Rattle.counter.specs.Made.{counterModel}
+use Rattle.calls.specs.Calls.{Call, clear, fileModel, fileCounter, fileDelivery, upper, lower, meanSteps, margin, live, within, Reply, cleared, accepted, known, new, value, refused, refusal, taken}
 
 -- ---- which files are held
 
@@ -32,10 +34,12 @@ pub record Event : Type 0 where
   pub call : Call
   pub reply : Reply
 
--- The model last accepted since the last clearing: by one call more, whose reply says whether a file was taken.
+-- The model last accepted since the last clearing: by one call more, whose reply says whether a file was taken. Of a counter file it is the model that the
+-- file makes (request A.2).
 abbrev pub modelAfter : Call → Bool → Option (List ℕ) → Option (List ℕ)
 modelAfter clear t former = none
 modelAfter (fileModel b) t former = cond t (some b) former
+modelAfter (fileCounter c) t former = cond t (some (counterModel c)) former
 modelAfter (fileDelivery d) t former = former
 modelAfter (upper p z q) t former = former
 modelAfter (lower p z q) t former = former
@@ -52,6 +56,7 @@ lastModel (e ∷ es) = modelAfter (e .call) (taken (e .reply)) (lastModel es)
 abbrev pub deliveryAfter : Call → Bool → Option (List ℕ) → Option (List ℕ)
 deliveryAfter clear t former = none
 deliveryAfter (fileModel b) t former = cond t none former
+deliveryAfter (fileCounter c) t former = cond t none former
 deliveryAfter (fileDelivery d) t former = cond t (some d) former
 deliveryAfter (upper p z q) t former = former
 deliveryAfter (lower p z q) t former = former
@@ -129,6 +134,8 @@ markOf b (some e) d = cond (sameUppers b e d) known new
 unfoldable pub plainReply : Pair → Call → Reply
 plainReply x clear = cleared
 plainReply x (fileModel b) = ifNone (x .model) (byVerdict (modelVerdict b) accepted)
+-- Request A.2: 41 first, then the verdict on the counter file. No verdict on the model that it makes: that can fail nothing (`made-accepted`, crate counter).
+plainReply x (fileCounter c) = ifNone (x .model) (byVerdict (counterVerdict c) accepted)
 plainReply x (fileDelivery d) = ofModel (x .model) (λ b. byVerdict (verdict b d) (markOf b (x .delivery) d))
 plainReply x (upper p z q) =
     ofModel (x .model) (λ b. ofDelivery (x .delivery) (λ d. atEntry b p z q (value (uppersOf (statesOf b) (symbolsOf b) d p z q))))
