@@ -17,13 +17,13 @@ use Rattle.spelling.proofs.Rest.{name-of}
 use Rattle.said.specs.declared.Said.{Said}
 use Rattle.calls.specs.declared.Question.{Question}
 use Rattle.calls.specs.declared.Question.the-variants.{Upper, Lower, MeanSteps, Margin, Live, Within}
-use Rattle.said.specs.declared.Change.the-variants.{Clear, Model, Delivery}
+use Rattle.said.specs.declared.Change.the-variants.{Clear, Model, Counter, Delivery}
 use Rattle.said.specs.declared.Said.the-variants as Says
 use Rattle.said.specs.declared.Said.the-variants.{Nothing, Unclear}
 use Rattle.said.specs.Said.{isSilent, alone, onFile, onRow, onEntry, onSteps, byWord, saidBy}
-use Rattle.said.specs.Said.{clearWord, modelWord, deliveryWord, upperWord, lowerWord, stepsWord, marginWord, liveWord, withinWord}
+use Rattle.said.specs.Said.{clearWord, modelWord, counterWord, deliveryWord, upperWord, lowerWord, stepsWord, marginWord, liveWord, withinWord}
 use Rattle.said.specs.Contracts.{FileLine}
-use Rattle.said.proofs.Calls.{says-model, says-delivery, line-says, silent-says, odd-says}
+use Rattle.said.proofs.Calls.{says-model, says-counter, says-delivery, line-says, silent-says, odd-says}
 
 -- ---- lines that say no call
 
@@ -113,18 +113,20 @@ module _ (f : Said → Bool) (unclear : f Unclear ≡ false) where
   steps-down call (n ∷ p ∷ z ∷ q ∷ w ∷ ws) e = unclear
 
   word-down : (w : List ℕ) (ws : List (List ℕ)) → f (Says.Change Clear) ≡ false → (same w modelWord ≡ true → f (Says.Change Model) ≡ false)
-      → (same w deliveryWord ≡ true → f (Says.Change Delivery) ≡ false) → ((a : Question) → f (Says.Question a) ≡ false) → f (byWord w ws) ≡ false
+      → (same w counterWord ≡ true → f (Says.Change Counter) ≡ false) → (same w deliveryWord ≡ true → f (Says.Change Delivery) ≡ false)
+      → ((a : Question) → f (Says.Question a) ≡ false) → f (byWord w ws) ≡ false
   unfolding byWord
-  word-down w ws clear model delivery question =
+  word-down w ws clear model counter delivery question =
       either (same w clearWord) _ _ (λ t. alone-down (Says.Change Clear) ws clear)
       (either (same w modelWord) _ _ (λ t. file-down (Says.Change Model) ws (model t))
+      (either (same w counterWord) _ _ (λ t. file-down (Says.Change Counter) ws (counter t))
       (either (same w deliveryWord) _ _ (λ t. file-down (Says.Change Delivery) ws (delivery t))
       (either (same w upperWord) _ _ (λ t. entry-down Upper ws question)
       (either (same w lowerWord) _ _ (λ t. entry-down Lower ws question)
       (either (same w stepsWord) _ _ (λ t. row-down MeanSteps ws question)
       (either (same w marginWord) _ _ (λ t. alone-down (Says.Question Margin) ws (question Margin))
       (either (same w liveWord) _ _ (λ t. entry-down Live ws question)
-      (either (same w withinWord) _ _ (λ t. steps-down Within ws question) unclear))))))))
+      (either (same w withinWord) _ _ (λ t. steps-down Within ws question) unclear)))))))))
 
 -- The flags of a reply that is none, and of the filings.
 abbrev isNothing : Said → Bool
@@ -138,14 +140,25 @@ isModel Nothing = false
 isModel Unclear = false
 isModel (Says.Change Clear) = false
 isModel (Says.Change Model) = true
+isModel (Says.Change Counter) = false
 isModel (Says.Change Delivery) = false
 isModel (Says.Question a) = false
+
+abbrev isCounter : Said → Bool
+isCounter Nothing = false
+isCounter Unclear = false
+isCounter (Says.Change Clear) = false
+isCounter (Says.Change Model) = false
+isCounter (Says.Change Counter) = true
+isCounter (Says.Change Delivery) = false
+isCounter (Says.Question a) = false
 
 abbrev isDelivery : Said → Bool
 isDelivery Nothing = false
 isDelivery Unclear = false
 isDelivery (Says.Change Clear) = false
 isDelivery (Says.Change Model) = false
+isDelivery (Says.Change Counter) = false
 isDelivery (Says.Change Delivery) = true
 isDelivery (Says.Question a) = false
 
@@ -164,7 +177,7 @@ nothing-is-silent line e = go (isSilent line) refl (isPlain line) refl
     go false loud true plain =
         absurd
         (false≢true
-        (sym (word-down isNothing refl _ _ refl (λ t. refl) (λ t. refl) (λ a. refl))
+        (sym (word-down isNothing refl _ _ refl (λ t. refl) (λ t. refl) (λ t. refl) (λ a. refl))
         ∙ ap isNothing (sym (line-says line loud plain) ∙ e)))
 
 spoken : (line : List ℕ) (f : Said → Bool) → f Nothing ≡ false → f Unclear ≡ false → f (saidBy line) ≡ true → Spoken line
@@ -210,7 +223,7 @@ file-line word line plain first file =
       printable = every-drop isPrintable (length word + 1) line (and-eq-true-iff (leb (length line) 300) (every isPrintable line) .0 plain .1);
     }
 
--- A filing of either kind, by its flag f, its word and its call.
+-- A filing of any kind, by its flag f, its word and its call.
 filing-names : (f : Said → Bool) (word line : List ℕ) (call : Said) → f call ≡ true → f Nothing ≡ false → f Unclear ≡ false
     → ((w : List ℕ) (ws : List (List ℕ)) → same w word ≡ false → f (byWord w ws) ≡ false)
     → ((w : List ℕ) (ws : List (List ℕ)) → same w word ≡ true → byWord w ws ≡ onFile call ws) → saidBy line ≡ call → FileLine word line
@@ -233,15 +246,22 @@ filing-names f word line call up nothing unclear other by e = go (same first wor
     go true is false file = absurd (false≢true (sym (ap f (by first rest is ∙ rw file) ∙ unclear) ∙ is-up))
     go true is true file = file-line word line (said .plain) (same-is first word is) file
 
--- The name in a line that files a model is its bytes from number 6 on, and in one that files a delivery those from number 9 on.
+-- The name in a line that files a model is its bytes from number 6 on, in one that files a counter machine those from number 8 on, and in one that files a
+-- delivery those from number 9 on.
 pub model-names : (line : List ℕ) → saidBy line ≡ Says.Change Model → FileLine modelWord line
 model-names line e =
     filing-names isModel modelWord line (Says.Change Model) refl refl refl
-    (λ w ws is. word-down isModel refl w ws refl (λ t. absurd (false≢true (sym is ∙ t))) (λ t. refl) (λ a. refl))
+    (λ w ws is. word-down isModel refl w ws refl (λ t. absurd (false≢true (sym is ∙ t))) (λ t. refl) (λ t. refl) (λ a. refl))
     says-model e
+
+pub counter-names : (line : List ℕ) → saidBy line ≡ Says.Change Counter → FileLine counterWord line
+counter-names line e =
+    filing-names isCounter counterWord line (Says.Change Counter) refl refl refl
+    (λ w ws is. word-down isCounter refl w ws refl (λ t. refl) (λ t. absurd (false≢true (sym is ∙ t))) (λ t. refl) (λ a. refl))
+    says-counter e
 
 pub delivery-names : (line : List ℕ) → saidBy line ≡ Says.Change Delivery → FileLine deliveryWord line
 delivery-names line e =
     filing-names isDelivery deliveryWord line (Says.Change Delivery) refl refl refl
-    (λ w ws is. word-down isDelivery refl w ws refl (λ t. refl) (λ t. absurd (false≢true (sym is ∙ t))) (λ a. refl))
+    (λ w ws is. word-down isDelivery refl w ws refl (λ t. refl) (λ t. refl) (λ t. absurd (false≢true (sym is ∙ t))) (λ a. refl))
     says-delivery e

@@ -5,7 +5,7 @@ use mathlib.Core.List.{List, [], _∷_}
 use lib.ListN.{replicate}
 use Rattle.said.specs.declared.Said.{Said}
 use Rattle.calls.specs.declared.Question.the-variants.{Upper, Lower, MeanSteps, Margin, Live, Within}
-use Rattle.said.specs.declared.Change.the-variants.{Clear, Model, Delivery}
+use Rattle.said.specs.declared.Change.the-variants.{Clear, Model, Counter, Delivery}
 use Rattle.said.specs.declared.Said.the-variants.{Nothing, Unclear, Change, Question}
 use Rattle.said.specs.Said.{saidBy}
 
@@ -29,6 +29,14 @@ lines =
     says (99 ∷ 108 ∷ 101 ∷ 97 ∷ 114 ∷ []) (Change Clear)
     -- model a
     ∷ says (109 ∷ 111 ∷ 100 ∷ 101 ∷ 108 ∷ 32 ∷ 97 ∷ []) (Change Model)
+    -- counter a
+    ∷ says (99 ∷ 111 ∷ 117 ∷ 110 ∷ 116 ∷ 101 ∷ 114 ∷ 32 ∷ 97 ∷ []) (Change Counter)
+    -- counter
+    ∷ says (99 ∷ 111 ∷ 117 ∷ 110 ∷ 116 ∷ 101 ∷ 114 ∷ []) Unclear
+    -- counter a b
+    ∷ says (99 ∷ 111 ∷ 117 ∷ 110 ∷ 116 ∷ 101 ∷ 114 ∷ 32 ∷ 97 ∷ 32 ∷ 98 ∷ []) Unclear
+    -- counters a
+    ∷ says (99 ∷ 111 ∷ 117 ∷ 110 ∷ 116 ∷ 101 ∷ 114 ∷ 115 ∷ 32 ∷ 97 ∷ []) Unclear
     -- delivery a
     ∷ says (100 ∷ 101 ∷ 108 ∷ 105 ∷ 118 ∷ 101 ∷ 114 ∷ 121 ∷ 32 ∷ 97 ∷ []) (Change Delivery)
     -- upper 0 0 0

@@ -15,6 +15,7 @@ ghost use Rattle.said.specs.Said.{saidBy, isSilent, byWord, alone, onFil
 pub enum Change {
     Clear,
     Model,
+    Counter,
     Delivery,
 }
 
@@ -124,6 +125,9 @@ fn by_word(word: &[u8], rest: &[u8]) -> Said
     }
     if is_word(word, b"model") {
         return on_file(rest, Said::Change(Change::Model));
+    }
+    if is_word(word, b"counter") {
+        return on_file(rest, Said::Change(Change::Counter));
     }
     if is_word(word, b"delivery") {
         return on_file(rest, Said::Change(Change::Delivery));

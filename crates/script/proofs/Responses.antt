@@ -7,7 +7,7 @@ use mathlib.Core.Path.{_≡_, refl, sym, ap, _∙_}
 use borrow.Author.Tests.{not-false}
 use Rattle.calls.specs.declared.Question.{Question}
 use Rattle.calls.specs.declared.Question.the-variants as Asks
-use Rattle.calls.specs.Calls.{fileModel, fileDelivery, refusal}
+use Rattle.calls.specs.Calls.{fileModel, fileCounter, fileDelivery, refusal}
 use Rattle.calls.specs.Answers.{answerReply, questionCall}
 use Rattle.questions.specs.declared.View.{View}
 use Rattle.questions.specs.Questions.{answerFrom}
@@ -15,10 +15,12 @@ use Rattle.register.specs.declared.Register.{Register}
 use Rattle.register.specs.Filing as Filing
 use Rattle.register.specs.Questions.{hasModel, shownOf, listsOf, viewOf, upperIn, lowerIn, meanIn, marginIn, liveIn, withinIn}
 use Rattle.filing.specs.Outcomes.{modelOutcome, deliveryOutcome}
+use Rattle.counter.specs.Filing as Counter
+use Rattle.counter.specs.Filing.{counterOutcome}
 use Rattle.history.specs.Run.{afterCall, replyOf}
 use Rattle.history.proofs.Refusals.{refused-keeps}
 use Rattle.said.specs.declared.Change.{Change}
-use Rattle.said.specs.declared.Change.the-variants.{Clear, Model, Delivery}
+use Rattle.said.specs.declared.Change.the-variants.{Clear, Model, Counter, Delivery}
 use Rattle.said.specs.declared.Said.{Said}
 use Rattle.said.specs.declared.Said.the-variants as Says
 use Rattle.replies.specs.Replies.{replyLine}
@@ -33,12 +35,14 @@ module _ (r : Register) where
   unfolding afterCall
   made-register Clear f = refl
   made-register Model f = refl
+  made-register Counter f = refl
   made-register Delivery f = refl
 
   made-text : (c : Change) (f : List ℕ) → textOf (changeMade r c f .response) ≡ replyLine (replyOf r (changeCall c f))
   unfolding replyOf
   made-text Clear f = refl
   made-text Model f = refl
+  made-text Counter f = refl
   made-text Delivery f = refl
 
   pub changed-register : (s : Said) (f : List ℕ) → mayChange s ≡ true → changedBy r s f .register ≡ registerBy r (askedBy s f)
@@ -89,10 +93,14 @@ module _ (r : Register) where
       → textOf (answeredFrom (v .shown) (v .bytes) l s) ≡ replyBy r (askedBy s f)
   kept-text s f seen listed e = rw (seen, listed) (kept-shown s f e)
 
-  -- The register's own reasons: 41 for a model where one is held, 40 for a delivery where none is, whatever the file. Nothing changes then.
+  -- The register's own reasons: 41 for a model or a counter file where a model is held, 40 for a delivery where none is, whatever the file. Nothing changes then.
   pub model-unread : (f : List ℕ) → hasModel r ≡ true → replyOf r (fileModel f) ≡ refusal 41
   unfolding replyOf Filing.fileModel modelOutcome hasModel
   model-unread f held = rw held
+
+  pub counter-unread : (f : List ℕ) → hasModel r ≡ true → replyOf r (fileCounter f) ≡ refusal 41
+  unfolding replyOf Counter.fileCounter counterOutcome
+  counter-unread f held = rw held
 
   pub delivery-unread : (f : List ℕ) → hasModel r ≡ false → replyOf r (fileDelivery f) ≡ refusal 40
   unfolding replyOf Filing.fileDelivery deliveryOutcome hasModel
@@ -100,6 +108,9 @@ module _ (r : Register) where
 
   model-kept : (f : List ℕ) → hasModel r ≡ true → afterCall r (fileModel f) ≡ r
   model-kept f held = refused-keeps r (fileModel f) 41 0 (pos 0) (model-unread f held)
+
+  counter-kept : (f : List ℕ) → hasModel r ≡ true → afterCall r (fileCounter f) ≡ r
+  counter-kept f held = refused-keeps r (fileCounter f) 41 0 (pos 0) (counter-unread f held)
 
   delivery-kept : (f : List ℕ) → hasModel r ≡ false → afterCall r (fileDelivery f) ≡ r
   delivery-kept f held = refused-keeps r (fileDelivery f) 40 0 (pos 0) (delivery-unread f held)
@@ -110,6 +121,7 @@ module _ (r : Register) where
   unread-text Says.Unclear f g e = refl
   unread-text (Says.Change Clear) f g e = refl
   unread-text (Says.Change Model) f g e = ap replyLine (model-unread f (not-false (hasModel r) e) ∙ sym (model-unread g (not-false (hasModel r) e)))
+  unread-text (Says.Change Counter) f g e = ap replyLine (counter-unread f (not-false (hasModel r) e) ∙ sym (counter-unread g (not-false (hasModel r) e)))
   unread-text (Says.Change Delivery) f g e = ap replyLine (delivery-unread f e ∙ sym (delivery-unread g e))
   unread-text (Says.Question a) f g e = refl
 
@@ -119,5 +131,6 @@ module _ (r : Register) where
   unread-register Says.Unclear f g e = refl
   unread-register (Says.Change Clear) f g e = refl
   unread-register (Says.Change Model) f g e = model-kept f (not-false (hasModel r) e) ∙ sym (model-kept g (not-false (hasModel r) e))
+  unread-register (Says.Change Counter) f g e = counter-kept f (not-false (hasModel r) e) ∙ sym (counter-kept g (not-false (hasModel r) e))
   unread-register (Says.Change Delivery) f g e = delivery-kept f e ∙ sym (delivery-kept g e)
   unread-register (Says.Question a) f g e = refl

@@ -1,5 +1,5 @@
--- Whether a file is read goes by the plain pair: a model's where the pair has none, a delivery's where it has one. The bytes of a file that is not read change
--- nothing that is printed.
+-- Whether a file is read goes by the plain pair: that of a model, and of a counter machine, where the pair has no model, a delivery's where it has one. The bytes
+-- of a file that is not read change nothing that is printed.
 use Prim.Native.Nat.{ℕ}
 use mathlib.Core.Bool.{true, false}
 use mathlib.Core.List.{List}

@@ -7,8 +7,9 @@ use Rattle.questions.specs.Questions.{answerFrom}
 use Rattle.questions.specs.Contracts.{isShort}
 use Rattle.register.specs.declared.Register.{Register}
 use Rattle.register.specs.Filing as Filing
+use Rattle.counter.specs.Filing.{fileCounter}
 use Rattle.said.specs.declared.Change.{Change}
-use Rattle.said.specs.declared.Change.the-variants.{Clear, Model, Delivery}
+use Rattle.said.specs.declared.Change.the-variants.{Clear, Model, Counter, Delivery}
 use Rattle.said.specs.declared.Said.{Said}
 use Rattle.said.specs.declared.Said.the-variants as Says
 use Rattle.replies.specs.declared.Response.{Response}
@@ -43,6 +44,7 @@ responded r x = record { register = r; response = x }
 abbrev pub changeMade : Register → Change → List ℕ → Responded
 changeMade r Clear f = responded Filing.cleared Cleared
 changeMade r Model f = responded (Filing.fileModel r f .register) (Filed (Filing.fileModel r f .outcome))
+changeMade r Counter f = responded (fileCounter r f .register) (Filed (fileCounter r f .outcome))
 changeMade r Delivery f =
     responded (Filing.fileDelivery r f .register) (Received (Filing.fileDelivery r f .outcome) (Filing.fileDelivery r f .mark))
 

@@ -7,8 +7,10 @@ use mathlib.Core.Path.{_≡_}
 use Rattle.text.specs.Reading.{pieces}
 use Rattle.model.specs.W.{wFile}
 use Rattle.certificate.specs.Edges.{oneRule, wDelivery}
+use Rattle.counter.specs.Made.{counterRecord}
+use Rattle.counter.specs.Edges.{queueFile}
 use Rattle.calls.specs.declared.Question.the-variants.{Margin}
-use Rattle.said.specs.declared.Change.the-variants.{Clear, Model, Delivery}
+use Rattle.said.specs.declared.Change.the-variants.{Clear, Model, Counter, Delivery}
 use Rattle.said.specs.declared.Said.{Said}
 use Rattle.said.specs.declared.Said.the-variants.{Nothing, Unclear, Change, Question}
 use Rattle.script.specs.Script.{LineRead, readsFile, printedAfter}
@@ -129,6 +131,35 @@ wScript =
     ∷ row (108 ∷ 105 ∷ 118 ∷ 101 ∷ 32 ∷ 49 ∷ 32 ∷ 48 ∷ 32 ∷ 49 ∷ 10 ∷ []) [] (118 ∷ 97 ∷ 108 ∷ 117 ∷ 101 ∷ 32 ∷ 49 ∷ 10 ∷ [])
     ∷ []
 
+-- A counter file (request A.2) is filed like a model: refused for its own reasons, accepted, and 41 whatever is named then.
+abbrev pub counterScript : List Row
+counterScript =
+    -- counter c: refused 46 0 0
+    row (99 ∷ 111 ∷ 117 ∷ 110 ∷ 116 ∷ 101 ∷ 114 ∷ 32 ∷ 99 ∷ 10 ∷ []) [] (114 ∷ 101 ∷ 102 ∷ 117 ∷ 115 ∷ 101 ∷ 100 ∷ 32 ∷ 52 ∷ 54 ∷ 32 ∷ 48 ∷ 32 ∷ 48 ∷ 10 ∷ [])
+    -- counter b: refused 48 1 0
+    ∷ row (99 ∷ 111 ∷ 117 ∷ 110 ∷ 116 ∷ 101 ∷ 114 ∷ 32 ∷ 98 ∷ 10 ∷ []) (counterRecord 0 1 0 0 65536) (114 ∷ 101 ∷ 102 ∷ 117 ∷ 115 ∷ 101 ∷ 100 ∷ 32 ∷ 52 ∷ 56 ∷ 32 ∷ 49 ∷ 32 ∷ 48 ∷ 10 ∷ [])
+    -- live 0 0 0: refused 40 0 0
+    ∷ row (108 ∷ 105 ∷ 118 ∷ 101 ∷ 32 ∷ 48 ∷ 32 ∷ 48 ∷ 32 ∷ 48 ∷ 10 ∷ []) [] (114 ∷ 101 ∷ 102 ∷ 117 ∷ 115 ∷ 101 ∷ 100 ∷ 32 ∷ 52 ∷ 48 ∷ 32 ∷ 48 ∷ 32 ∷ 48 ∷ 10 ∷ [])
+    -- counter c: accepted
+    ∷ row (99 ∷ 111 ∷ 117 ∷ 110 ∷ 116 ∷ 101 ∷ 114 ∷ 32 ∷ 99 ∷ 10 ∷ []) queueFile (97 ∷ 99 ∷ 99 ∷ 101 ∷ 112 ∷ 116 ∷ 101 ∷ 100 ∷ 10 ∷ [])
+    -- counter c: refused 41 0 0
+    ∷ row (99 ∷ 111 ∷ 117 ∷ 110 ∷ 116 ∷ 101 ∷ 114 ∷ 32 ∷ 99 ∷ 10 ∷ []) [] (114 ∷ 101 ∷ 102 ∷ 117 ∷ 115 ∷ 101 ∷ 100 ∷ 32 ∷ 52 ∷ 49 ∷ 32 ∷ 48 ∷ 32 ∷ 48 ∷ 10 ∷ [])
+    -- model w: refused 41 0 0
+    ∷ row (109 ∷ 111 ∷ 100 ∷ 101 ∷ 108 ∷ 32 ∷ 119 ∷ 10 ∷ []) [] (114 ∷ 101 ∷ 102 ∷ 117 ∷ 115 ∷ 101 ∷ 100 ∷ 32 ∷ 52 ∷ 49 ∷ 32 ∷ 48 ∷ 32 ∷ 48 ∷ 10 ∷ [])
+    -- counter: unclear
+    ∷ row (99 ∷ 111 ∷ 117 ∷ 110 ∷ 116 ∷ 101 ∷ 114 ∷ 10 ∷ []) [] (117 ∷ 110 ∷ 99 ∷ 108 ∷ 101 ∷ 97 ∷ 114 ∷ 10 ∷ [])
+    -- within 3 0 0 0: value 162727720910848
+    ∷ row (119 ∷ 105 ∷ 116 ∷ 104 ∷ 105 ∷ 110 ∷ 32 ∷ 51 ∷ 32 ∷ 48 ∷ 32 ∷ 48 ∷ 32 ∷ 48 ∷ 10 ∷ []) [] (118 ∷ 97 ∷ 108 ∷ 117 ∷ 101 ∷ 32 ∷ 49 ∷ 54 ∷ 50 ∷ 55 ∷ 50 ∷ 55 ∷ 55 ∷ 50 ∷ 48 ∷ 57 ∷ 49 ∷ 48 ∷ 56 ∷ 52 ∷ 56 ∷ 10 ∷ [])
+    -- live 0 0 1: value 1
+    ∷ row (108 ∷ 105 ∷ 118 ∷ 101 ∷ 32 ∷ 48 ∷ 32 ∷ 48 ∷ 32 ∷ 49 ∷ 10 ∷ []) [] (118 ∷ 97 ∷ 108 ∷ 117 ∷ 101 ∷ 32 ∷ 49 ∷ 10 ∷ [])
+    -- clear: cleared
+    ∷ row (99 ∷ 108 ∷ 101 ∷ 97 ∷ 114 ∷ 10 ∷ []) [] (99 ∷ 108 ∷ 101 ∷ 97 ∷ 114 ∷ 101 ∷ 100 ∷ 10 ∷ [])
+    -- counter c: accepted
+    ∷ row (99 ∷ 111 ∷ 117 ∷ 110 ∷ 116 ∷ 101 ∷ 114 ∷ 32 ∷ 99 ∷ 10 ∷ []) queueFile (97 ∷ 99 ∷ 99 ∷ 101 ∷ 112 ∷ 116 ∷ 101 ∷ 100 ∷ 10 ∷ [])
+    -- upper 0 0 0: refused 42 0 0
+    ∷ row (117 ∷ 112 ∷ 112 ∷ 101 ∷ 114 ∷ 32 ∷ 48 ∷ 32 ∷ 48 ∷ 32 ∷ 48 ∷ 10 ∷ []) [] (114 ∷ 101 ∷ 102 ∷ 117 ∷ 115 ∷ 101 ∷ 100 ∷ 32 ∷ 52 ∷ 50 ∷ 32 ∷ 48 ∷ 32 ∷ 48 ∷ 10 ∷ [])
+    ∷ []
+
 -- Where the register refuses by its own reasons, 40 and 41, or no file is named, the bytes of the file, f, can be any. The last line lacks its end.
 abbrev pub unreadScript : List ℕ → List Row
 unreadScript f =
@@ -183,7 +214,7 @@ oddScript =
     ∷ row (99 ∷ 108 ∷ 101 ∷ 97 ∷ 114 ∷ 32 ∷ []) [] (117 ∷ 110 ∷ 99 ∷ 108 ∷ 101 ∷ 97 ∷ 114 ∷ 10 ∷ [])
     ∷ []
 
--- Whether the file of a line is read, by whether a model is held: that of a model where none is, that of a delivery where one is.
+-- Whether the file of a line is read, by whether a model is held: that of a model or a counter file where none is, that of a delivery where one is.
 pub record Reading : Type 0 where
   pub held : Bool
   pub said : Said
@@ -196,6 +227,8 @@ abbrev pub readings : List Reading
 readings =
     reading false (Change Model) true
     ∷ reading true (Change Model) false
+    ∷ reading false (Change Counter) true
+    ∷ reading true (Change Counter) false
     ∷ reading false (Change Delivery) false
     ∷ reading true (Change Delivery) true
     ∷ reading false (Change Clear) false

@@ -4,11 +4,11 @@ use mathlib.Core.Bool.{Bool, false, not}
 use mathlib.Core.List.{List, [], _∷_, _++_, map}
 use mathlib.Core.Path.{_≡_}
 use Rattle.text.specs.Reading.{pieces}
-use Rattle.calls.specs.Calls.{Call, clear, fileModel, fileDelivery}
+use Rattle.calls.specs.Calls.{Call, clear, fileModel, fileCounter, fileDelivery}
 use Rattle.calls.specs.Answers.{questionCall}
 use Rattle.history.specs.Plain.{Event, pairOf, plainReply}
 use Rattle.said.specs.declared.Change.{Change}
-use Rattle.said.specs.declared.Change.the-variants.{Clear, Model, Delivery}
+use Rattle.said.specs.declared.Change.the-variants.{Clear, Model, Counter, Delivery}
 use Rattle.said.specs.declared.Said.{Said}
 use Rattle.said.specs.declared.Said.the-variants as Says
 use Rattle.said.specs.Said.{saidBy}
@@ -29,6 +29,7 @@ pub data Asked : Type 0 where
 abbrev pub changeCall : Change → List ℕ → Call
 changeCall Clear f = clear
 changeCall Model f = fileModel f
+changeCall Counter f = fileCounter f
 changeCall Delivery f = fileDelivery f
 
 abbrev pub askedBy : Said → List ℕ → Asked
@@ -44,6 +45,7 @@ asks l = askedBy (saidBy (l .bytes)) (l .file)
 abbrev pub changeReads : Bool → Change → Bool
 changeReads held Clear = false
 changeReads held Model = not held
+changeReads held Counter = not held
 changeReads held Delivery = held
 
 abbrev pub readsFile : Bool → Said → Bool

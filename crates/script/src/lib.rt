@@ -5,6 +5,7 @@ use model::format::MOST_ENTRIES;
 use model::sizes::Sizes;
 use questions::LISTS;
 use questions::Shown;
+use register::Filed;
 use register::Register;
 use replies::Response;
 use rows::STARTS;
@@ -14,7 +15,7 @@ ghost use mathlib.Core.Path.{_≡_};
 ghost use Rattle.questions.specs.Contracts.{IfNeeded};
 ghost use Rattle.register.specs.Filing.{cleared};
 ghost use Rattle.replies.specs.declared.Response.the-variants.{Silence, Cleared};
-ghost use Rattle.said.specs.declared.Change.the-variants.{Model, Delivery};
+ghost use Rattle.said.specs.declared.Change.the-variants.{Model, Counter, Delivery};
 ghost use Rattle.script.specs.Script.{changeReads, readsFile};
 ghost use Rattle.script.specs.Contracts.{mayChange, asksShort, answeredFrom, responded, changeMade, changedBy};
 
@@ -43,6 +44,7 @@ fn change_reads(held: bool, change: Change) -> bool
     match change {
         Change::Clear => false,
         Change::Model => !held,
+        Change::Counter => !held,
         Change::Delivery => held,
     }
 }
@@ -93,17 +95,30 @@ pub fn answer<'a>(
     }
 }
 
-// Files a model.
-fn file_model(register: Register, file: &[u8]) -> Responded
-    ensures { λ r. ⌜ r ≡ changeMade register Model (now (file .entry)) ⌝ }
+// What the filing of a model gives, by itself or by a counter file.
+fn filed(given: Filed) -> Responded
+    ensures { λ r. ⌜ r ≡ responded (given .register) (Response.Filed (given .outcome)) ⌝ }
 {
-    let filed = register.file_model(file);
-    let after = filed.register;
-    let outcome = filed.outcome;
+    let after = given.register;
+    let outcome = given.outcome;
     Responded {
         register: after,
         response: Response::Filed(outcome),
     }
+}
+
+// Files a model.
+fn file_model(register: Register, file: &[u8]) -> Responded
+    ensures { λ r. ⌜ r ≡ changeMade register Model (now (file .entry)) ⌝ }
+{
+    filed(register.file_model(file))
+}
+
+// Files a counter file.
+fn file_counter(register: Register, file: &[u8]) -> Responded
+    ensures { λ r. ⌜ r ≡ changeMade register Counter (now (file .entry)) ⌝ }
+{
+    filed(counter::filings::file_counter(register, file))
 }
 
 // Files a delivery.
@@ -137,6 +152,7 @@ fn make(register: Register, change: Change, file: &[u8]) -> Responded
     match change {
         Change::Clear => clear(register),
         Change::Model => file_model(register, file),
+        Change::Counter => file_counter(register, file),
         Change::Delivery => file_delivery(register, file),
     }
 }

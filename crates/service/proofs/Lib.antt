@@ -1,2 +1,3 @@
--- A desk through a piece of input.
+-- A desk through a piece of input, and where it reads the names of files.
 pub mod Serving
+pub mod Names

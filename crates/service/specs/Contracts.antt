@@ -8,9 +8,9 @@ use lib.ListN.{length, set}
 use Rattle.register.specs.declared.Register.{Register}
 use Rattle.register.specs.Questions.{hasModel}
 use Rattle.said.specs.declared.Change.{Change}
-use Rattle.said.specs.declared.Change.the-variants.{Clear, Model, Delivery}
+use Rattle.said.specs.declared.Change.the-variants.{Clear, Model, Counter, Delivery}
 use Rattle.said.specs.declared.Said.{Said}
-use Rattle.said.specs.Said.{modelWord, deliveryWord}
+use Rattle.said.specs.Said.{modelWord, counterWord, deliveryWord}
 use Rattle.script.specs.declared.Responded.{Responded}
 use Rattle.service.specs.declared.Served.{Served}
 use Rattle.script.specs.Script.{readsFile}
@@ -21,6 +21,7 @@ use Rattle.script.specs.Contracts.{changedBy}
 abbrev pub nameFrom : Change → ℕ
 nameFrom Clear = 0
 nameFrom Model = length modelWord + 1
+nameFrom Counter = length counterWord + 1
 nameFrom Delivery = length deliveryWord + 1
 
 -- The change was made, with some bytes for the file, and none where it is not read.

@@ -1,6 +1,5 @@
 // A desk: a register that takes its calls from lines of text. Input comes in pieces of any size, and lines go across pieces.
 
-use questions::View;
 use questions::index::find_if;
 use questions::index::none;
 use register::Register;
@@ -67,6 +66,7 @@ fn name_from(change: Change) -> usize
     match change {
         Change::Clear => 0,
         Change::Model => 6,
+        Change::Counter => 8,
         Change::Delivery => 9,
     }
 }
@@ -87,7 +87,7 @@ fn fetch(held: bool, said: Said, line: &[u8], file: &mut [u8]) -> usize
 }
 
 // Makes the change that a line asks for. Its file is read only if the register has no reason of its own to refuse it, and one byte more of it than any
-// delivery has that can pass, and any model, so that a longer file is refused by its number.
+// delivery, model or counter file has that can pass, so that a longer file is refused by its number.
 fn perform(register: Register, said: Said, line: &[u8]) -> Responded
     ensures { λ r. ⌜ Performed register said r ⌝ }
 {

@@ -1,7 +1,7 @@
 -- `by_word`: the call is that of the first word that the word is, and none where it is none of them.
 use mathlib.Core.Path.{sym, _∙_}
 use borrow.Author.Needs.{needs}
-use Rattle.said.proofs.Calls.{says-clear, says-model, says-delivery, says-upper, says-lower, says-steps, says-margin, says-live, says-within, says-none}
+use Rattle.said.proofs.Calls.{says-clear, says-model, says-counter, says-delivery, says-upper, says-lower, says-steps, says-margin, says-live, says-within, says-none}
 use Rattle.said.proofs.by_word.Statement.{statement}
 use Rattle.said.proofs.by_word.Tie as tie
 
@@ -39,7 +39,7 @@ on-file-requires-2 : tie.Need-on-file-requires-2
 on-file-requires-2 c κs = search needs
 
 returns-3 : tie.Need-returns-3
-returns-3 c = c .on-file2 .ensures ∙ sym (says-delivery _ _ (sym (c .before .before .is-word3 .ensures) ∙ c .before .if3 .taken))
+returns-3 c = c .on-file2 .ensures ∙ sym (says-counter _ _ (sym (c .before .before .is-word3 .ensures) ∙ c .before .if3 .taken))
 
 slice-aggregate-is-word-4 : tie.Need-slice-aggregate-is-word-4
 slice-aggregate-is-word-4 c = search needs
@@ -47,11 +47,11 @@ slice-aggregate-is-word-4 c = search needs
 is-word-requires-4 : tie.Need-is-word-requires-4
 is-word-requires-4 c κs = search needs
 
-upper-requires : tie.Need-upper-requires
-upper-requires c κs = search needs
+on-file-requires-3 : tie.Need-on-file-requires-3
+on-file-requires-3 c κs = search needs
 
 returns-4 : tie.Need-returns-4
-returns-4 c = c .upper .ensures ∙ sym (says-upper _ _ (sym (c .before .before .is-word4 .ensures) ∙ c .before .if4 .taken))
+returns-4 c = c .on-file3 .ensures ∙ sym (says-delivery _ _ (sym (c .before .before .is-word4 .ensures) ∙ c .before .if4 .taken))
 
 slice-aggregate-is-word-5 : tie.Need-slice-aggregate-is-word-5
 slice-aggregate-is-word-5 c = search needs
@@ -59,11 +59,11 @@ slice-aggregate-is-word-5 c = search needs
 is-word-requires-5 : tie.Need-is-word-requires-5
 is-word-requires-5 c κs = search needs
 
-lower-requires : tie.Need-lower-requires
-lower-requires c κs = search needs
+upper-requires : tie.Need-upper-requires
+upper-requires c κs = search needs
 
 returns-5 : tie.Need-returns-5
-returns-5 c = c .lower .ensures ∙ sym (says-lower _ _ (sym (c .before .before .is-word5 .ensures) ∙ c .before .if5 .taken))
+returns-5 c = c .upper .ensures ∙ sym (says-upper _ _ (sym (c .before .before .is-word5 .ensures) ∙ c .before .if5 .taken))
 
 slice-aggregate-is-word-6 : tie.Need-slice-aggregate-is-word-6
 slice-aggregate-is-word-6 c = search needs
@@ -71,11 +71,11 @@ slice-aggregate-is-word-6 c = search needs
 is-word-requires-6 : tie.Need-is-word-requires-6
 is-word-requires-6 c κs = search needs
 
-steps-requires : tie.Need-steps-requires
-steps-requires c κs = search needs
+lower-requires : tie.Need-lower-requires
+lower-requires c κs = search needs
 
 returns-6 : tie.Need-returns-6
-returns-6 c = c .steps .ensures ∙ sym (says-steps _ _ (sym (c .before .before .is-word6 .ensures) ∙ c .before .if6 .taken))
+returns-6 c = c .lower .ensures ∙ sym (says-lower _ _ (sym (c .before .before .is-word6 .ensures) ∙ c .before .if6 .taken))
 
 slice-aggregate-is-word-7 : tie.Need-slice-aggregate-is-word-7
 slice-aggregate-is-word-7 c = search needs
@@ -83,11 +83,11 @@ slice-aggregate-is-word-7 c = search needs
 is-word-requires-7 : tie.Need-is-word-requires-7
 is-word-requires-7 c κs = search needs
 
-alone-requires-2 : tie.Need-alone-requires-2
-alone-requires-2 c κs = search needs
+steps-requires : tie.Need-steps-requires
+steps-requires c κs = search needs
 
 returns-7 : tie.Need-returns-7
-returns-7 c = c .alone2 .ensures ∙ sym (says-margin _ _ (sym (c .before .before .is-word7 .ensures) ∙ c .before .if7 .taken))
+returns-7 c = c .steps .ensures ∙ sym (says-steps _ _ (sym (c .before .before .is-word7 .ensures) ∙ c .before .if7 .taken))
 
 slice-aggregate-is-word-8 : tie.Need-slice-aggregate-is-word-8
 slice-aggregate-is-word-8 c = search needs
@@ -95,11 +95,11 @@ slice-aggregate-is-word-8 c = search needs
 is-word-requires-8 : tie.Need-is-word-requires-8
 is-word-requires-8 c κs = search needs
 
-live-requires : tie.Need-live-requires
-live-requires c κs = search needs
+alone-requires-2 : tie.Need-alone-requires-2
+alone-requires-2 c κs = search needs
 
 returns-8 : tie.Need-returns-8
-returns-8 c = c .live .ensures ∙ sym (says-live _ _ (sym (c .before .before .is-word8 .ensures) ∙ c .before .if8 .taken))
+returns-8 c = c .alone2 .ensures ∙ sym (says-margin _ _ (sym (c .before .before .is-word8 .ensures) ∙ c .before .if8 .taken))
 
 slice-aggregate-is-word-9 : tie.Need-slice-aggregate-is-word-9
 slice-aggregate-is-word-9 c = search needs
@@ -107,15 +107,28 @@ slice-aggregate-is-word-9 c = search needs
 is-word-requires-9 : tie.Need-is-word-requires-9
 is-word-requires-9 c κs = search needs
 
+live-requires : tie.Need-live-requires
+live-requires c κs = search needs
+
+returns-9 : tie.Need-returns-9
+returns-9 c = c .live .ensures ∙ sym (says-live _ _ (sym (c .before .before .is-word9 .ensures) ∙ c .before .if9 .taken))
+
+slice-aggregate-is-word-10 : tie.Need-slice-aggregate-is-word-10
+slice-aggregate-is-word-10 c = search needs
+
+is-word-requires-10 : tie.Need-is-word-requires-10
+is-word-requires-10 c κs = search needs
+
 within-requires : tie.Need-within-requires
 within-requires c κs = search needs
 
-returns-9 : tie.Need-returns-9
-returns-9 c = c .within .ensures ∙ sym (says-within _ _ (sym (c .before .before .is-word9 .ensures) ∙ c .before .if9 .taken))
-
 returns-10 : tie.Need-returns-10
-returns-10 c =
-    let t8 = c .before .before .before in
+returns-10 c = c .within .ensures ∙ sym (says-within _ _ (sym (c .before .before .is-word10 .ensures) ∙ c .before .if10 .taken))
+
+returns-11 : tie.Need-returns-11
+returns-11 c =
+    let t9 = c .before .before .before in
+    let t8 = t9 .before .before .before in
     let t7 = t8 .before .before .before in
     let t6 = t7 .before .before .before in
     let t5 = t6 .before .before .before in
@@ -133,7 +146,8 @@ returns-10 c =
     (sym (t6 .before .is-word6 .ensures) ∙ t6 .if6 .left)
     (sym (t7 .before .is-word7 .ensures) ∙ t7 .if7 .left)
     (sym (t8 .before .is-word8 .ensures) ∙ t8 .if8 .left)
-    (sym (c .before .is-word9 .ensures) ∙ c .if9 .left))
+    (sym (t9 .before .is-word9 .ensures) ∙ t9 .if9 .left)
+    (sym (c .before .is-word10 .ensures) ∙ c .if10 .left))
 
 pub by-word-spec : {M : Type 1} → statement M
 by-word-spec =
@@ -153,26 +167,30 @@ by-word-spec =
     returns-3
     slice-aggregate-is-word-4
     is-word-requires-4
-    upper-requires
+    on-file-requires-3
     returns-4
     slice-aggregate-is-word-5
     is-word-requires-5
-    lower-requires
+    upper-requires
     returns-5
     slice-aggregate-is-word-6
     is-word-requires-6
-    steps-requires
+    lower-requires
     returns-6
     slice-aggregate-is-word-7
     is-word-requires-7
-    alone-requires-2
+    steps-requires
     returns-7
     slice-aggregate-is-word-8
     is-word-requires-8
-    live-requires
+    alone-requires-2
     returns-8
     slice-aggregate-is-word-9
     is-word-requires-9
-    within-requires
+    live-requires
     returns-9
-    returns-10)
+    slice-aggregate-is-word-10
+    is-word-requires-10
+    within-requires
+    returns-10
+    returns-11)

@@ -1,4 +1,4 @@
--- `change_reads`: a model's file is read where none is held, a delivery's where one is, and a clearing has none.
+-- `change_reads`: the file of a model or a counter machine is read where no model is held, a delivery's where one is, and a clearing has none.
 use mathlib.Core.Path.{refl}
 use Rattle.outcome.proofs.Tests.{by-cases}
 use borrow.Author.Needs.{needs}
@@ -14,6 +14,9 @@ enum-told-2 c = search needs
 enum-told-3 : tie.Need-enum-told-3
 enum-told-3 c = search needs
 
+enum-told-4 : tie.Need-enum-told-4
+enum-told-4 c = search needs
+
 returns : tie.Need-returns
 returns c = rw (c .enum-told .given .1) refl
 
@@ -23,5 +26,8 @@ returns-2 c = rw (c .enum-told2 .given .1) (by-cases (c .before .before .args .h
 returns-3 : tie.Need-returns-3
 returns-3 c = rw (c .enum-told3 .given .1) (by-cases (c .before .before .args .held) (λ held. rw held refl) (λ held. rw held refl))
 
+returns-4 : tie.Need-returns-4
+returns-4 c = rw (c .enum-told4 .given .1) (by-cases (c .before .before .args .held) (λ held. rw held refl) (λ held. rw held refl))
+
 pub change-reads-spec : {M : Type 1} → statement M
-change-reads-spec = tie.close (tie.spec enum-told enum-told-2 enum-told-3 returns returns-2 returns-3)
+change-reads-spec = tie.close (tie.spec enum-told enum-told-2 enum-told-3 enum-told-4 returns returns-2 returns-3 returns-4)

@@ -18,6 +18,12 @@ file-model-requires c κs = search needs
 enum-told-3 : tie.Need-enum-told-3
 enum-told-3 c = search needs
 
+file-counter-requires : tie.Need-file-counter-requires
+file-counter-requires c κs = search needs
+
+enum-told-4 : tie.Need-enum-told-4
+enum-told-4 c = search needs
+
 file-delivery-requires : tie.Need-file-delivery-requires
 file-delivery-requires c κs = search needs
 
@@ -28,7 +34,10 @@ returns-2 : tie.Need-returns-2
 returns-2 c = rw (c .before .enum-told2 .given .1) (c .file-model .ensures)
 
 returns-3 : tie.Need-returns-3
-returns-3 c = rw (c .before .enum-told3 .given .1) (c .file-delivery .ensures)
+returns-3 c = rw (c .before .enum-told3 .given .1) (c .file-counter .ensures)
+
+returns-4 : tie.Need-returns-4
+returns-4 c = rw (c .before .enum-told4 .given .1) (c .file-delivery .ensures)
 
 pub make-spec : {M : Type 1} → statement M
 make-spec =
@@ -39,7 +48,10 @@ make-spec =
     enum-told-2
     file-model-requires
     enum-told-3
+    file-counter-requires
+    enum-told-4
     file-delivery-requires
     returns
     returns-2
-    returns-3)
+    returns-3
+    returns-4)
