@@ -13,8 +13,8 @@
 #include <unistd.h>
 
 enum { PIECE = 65536, MOST_LINE = 300, MOST_PATH = 255, MOST_DIGITS = 9, MOST_WORDS = 5, MOST_ENTRIES = 1024, MOST_STEPS = 3 };
-enum { MODEL_BYTES = 10240, DELIVERY_BYTES = 17408 };
-enum { NO_MODEL = 40, MODEL_HELD, NO_DELIVERY, NO_BLOCK, NOT_OF_MODEL, TOO_MANY_STEPS };
+enum { MODEL_BYTES = 10240, DELIVERY_BYTES = 17408, COUNTER_BYTES = 1536, MOVE_BYTES = 8 };
+enum { NO_MODEL = 40, MODEL_HELD, NO_DELIVERY, NO_BLOCK, NOT_OF_MODEL, TOO_MANY_STEPS, COUNTER_LENGTH, MOVE_WRONG, STATE_SUM_WRONG };
 
 /* The shortest line with a reply is 1 byte and its newline, answered by the 8 bytes of `unclear`; the longest reply has 37 bytes, to a line of 11. */
 enum { LONGEST_REPLY = 64, REPLY_ROOM = 4 * PIECE + LONGEST_REPLY };
@@ -120,6 +120,65 @@ static size_t read_file(const struct word *name, uint8_t *bytes, size_t most)
     return len;
 }
 
+/* Counter files. A refusal is its number and its place; the number is 0 where there is none. */
+
+struct refusal {
+    uint32_t number, place;
+};
+
+static bool is_move(const uint8_t *r)
+{
+    return r[0] <= 7 && r[1] <= 7 && r[2] <= 2 && r[3] == 0 && word(r + 4) >= 1 && word(r + 4) <= CERTAIN;
+}
+
+static struct refusal check_moves(const uint8_t *counter, size_t records)
+{
+    for (size_t i = 0; i < records; i++) {
+        const uint8_t *r = counter + MOVE_BYTES * i;
+        if (!is_move(r) || (i > 0 && memcmp(r - MOVE_BYTES, r, 3) >= 0))
+            return (struct refusal){MOVE_WRONG, (uint32_t)i};
+    }
+    return (struct refusal){0, 0};
+}
+
+/* The moves of a state follow each other. */
+static struct refusal check_state_sums(const uint8_t *counter, size_t records)
+{
+    size_t greatest = 0, i = 0;
+    for (size_t k = 0; k < records; k++)
+        greatest = greater(greatest, greater(counter[MOVE_BYTES * k], counter[MOVE_BYTES * k + 1]));
+    for (size_t state = 0; state <= greatest; state++) {
+        uint64_t sum = 0;
+        for (; i < records && counter[MOVE_BYTES * i] == state; i++)
+            sum += word(counter + MOVE_BYTES * i + 4);
+        if (sum != CERTAIN)
+            return (struct refusal){STATE_SUM_WRONG, (uint32_t)state};
+    }
+    return (struct refusal){0, 0};
+}
+
+static struct refusal check_counter(const uint8_t *counter, size_t len)
+{
+    if (len == 0 || len % MOVE_BYTES != 0 || len > COUNTER_BYTES)
+        return (struct refusal){COUNTER_LENGTH, 0};
+    struct refusal found = check_moves(counter, len / MOVE_BYTES);
+    return found.number != 0 ? found : check_state_sums(counter, len / MOVE_BYTES);
+}
+
+/* Writes the model that a counter file makes: a rule on symbol 0 for each move, which pushes 0, 1 or 2 of it. */
+static void make_model(uint8_t *model, const uint8_t *counter, size_t records)
+{
+    memset(model, 0, RULE_BYTES * records);
+    for (size_t i = 0; i < records; i++) {
+        const uint8_t *move = counter + MOVE_BYTES * i;
+        uint8_t *made = model + RULE_BYTES * i;
+        made[0] = move[0];
+        made[2] = move[1];
+        made[3] = move[2];
+        memcpy(made + 6, move + 4, 4);
+    }
+}
+
 /* What is held of accepted files. */
 
 static void find_model(struct model *m)
@@ -210,6 +269,24 @@ static void file_model(const struct word *path)
         return;
     }
     hold_model(len);
+    PUT("accepted\n");
+}
+
+static void file_counter(const struct word *path)
+{
+    static uint8_t counter[COUNTER_BYTES + 1];
+    if (held.has_model) {
+        reply_refused(MODEL_HELD, 0, 0);
+        return;
+    }
+    size_t len = read_file(path, counter, COUNTER_BYTES + 1);
+    struct refusal found = check_counter(counter, len);
+    if (found.number != 0) {
+        reply_refused(found.number, found.place, 0);
+        return;
+    }
+    make_model(held.model, counter, len / MOVE_BYTES);
+    hold_model(RULE_BYTES * (len / MOVE_BYTES));
     PUT("accepted\n");
 }
 
@@ -412,6 +489,8 @@ static bool answer_call(const struct words *words)
         clear();
     else if (says(name, "model") && words->count == 2 && is_path(path))
         file_model(path);
+    else if (says(name, "counter") && words->count == 2 && is_path(path))
+        file_counter(path);
     else if (says(name, "delivery") && words->count == 2 && is_path(path))
         file_delivery(path);
     else

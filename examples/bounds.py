@@ -1,29 +1,35 @@
 #!/usr/bin/env python3
-"""Turns a readable text into model.tab and bounds.cer and back, and says what a refusal means."""
+"""Turns a readable text into model.tab or counter.tab, and bounds.cer, and back, and says what a refusal means."""
 
 import sys
 from pathlib import Path
 
-MODEL, DELIVERY = "model.tab", "bounds.cer"
-RECORD_SIZE = {MODEL: 10, DELIVERY: 8}
+COUNTER, MODEL, DELIVERY = "counter.tab", "model.tab", "bounds.cer"
+RECORD_SIZE = {COUNTER: 8, MODEL: 10, DELIVERY: 8}
 KINDS = {"upper": 85, "lower": 76, "steps": 82}
-BYTES_FOR = {"model": MODEL, "delivery": DELIVERY}
+WAYS = ("down", "level", "up")  # by d, which is also how many symbols the made rule pushes
+BYTES_FOR = {"counter": COUNTER, "model": MODEL, "delivery": DELIVERY}
+RAW = {"counter": COUNTER, "record": MODEL, "kind": DELIVERY}
 USAGE = """\
-bounds.py write TEXT [FOLDER]                 write the two files (default: beside the text)
-bounds.py read [FOLDER]                       print the two files as a text (default: this folder)
+bounds.py write TEXT [FOLDER]                 write the files (default: beside the text)
+bounds.py read [FOLDER]                       print the files as a text (default: this folder)
+bounds.py made [FOLDER]                       print the text with the model that counter.tab makes
 bounds.py explain [NUMBER PLACE SHORTFALL]    explain one refusal, or list them all
 
-A text has one record a line, written in the order given; # starts a comment. The lines are:"""
+A text has one record a line, written in the order given; # starts a comment. Rules go to
+model.tab, moves to counter.tab, bounds to bounds.cer. The lines are:"""
 
 # Z is the top symbol; Y is the new top and X lies under it.
 FORMS = {
+    "move": "move u -> v down|level|up weight",
+    "counter": "counter u v d N weight",  # any record of a counter file, N being its fourth byte
     "rule": "rule p Z -> q [: Y [X]] weight",
     "record": "record p Z q L Y X weight",  # any record of a model, also one that is no rule
     "upper": "upper p Z q value",
     "lower": "lower p Z q value",
     "steps": "steps p Z value",
     "kind": "kind N p Z q value",  # any record of a delivery, N being its kind byte
-    "bytes": "bytes model|delivery NUMBER ...",  # for part of a record
+    "bytes": "bytes counter|model|delivery NUMBER ...",  # for part of a record
 }
 
 # number: (file, what the place counts, what is wrong)
@@ -46,12 +52,16 @@ REFUSALS = {
     27: (DELIVERY, "record", "the mean steps are below 1 plus the mean steps that the row's rules "
                              "leave to come"),
     40: (None, "register", "no model is held"),
-    41: (None, "register", "a model was filed while one is held; clear the register first"),
+    41: (None, "register", "a model or a counter file was filed while a model is held; clear the register first"),
     42: (None, "register", "no delivery is held"),
     43: (None, "register", "the held delivery has no lowers (for a lower or the margin) "
                            "or no mean steps (for mean steps)"),
     44: (None, "register", "the state or symbol asked for is not one of the held model"),
     45: (None, "register", "more than 3 steps were asked for; chances within n steps are answered for n from 0 to 3"),
+    46: (COUNTER, "file", "its length is 0, not a multiple of 8, or above 1536 bytes"),
+    47: (COUNTER, "record", "a state is above 7, d above 2, the fourth byte not 0, the weight 0 or above 65536, "
+                            "or its u v d is not above that of the record before"),
+    48: (COUNTER, "state", "the weights of its moves do not sum to 65536"),
 }
 SHORTFALL_UNITS = {24: "1/2^56", 26: "1/2^56", 27: "1/2^44 of a step"}
 FILED_UNITS = {24: "1/1048576", 26: "1/1048576", 27: "1/256 of a step"}
@@ -83,6 +93,13 @@ def rule_bytes(words):
     return packed([words[0], words[1], words[3], str(len(pushed)), *pushed, *unused, words[-1]])
 
 
+def move_bytes(words):
+    """Gives the record for the words `u -> v WAY weight`."""
+    if len(words) != 5 or words[1] != "->" or words[3] not in WAYS:
+        raise ValueError(f"expected: {FORMS['move']}")
+    return packed([words[0], words[2], str(WAYS.index(words[3])), "0", words[4]])
+
+
 def line_bytes(words):
     """Gives the file that a line's words belong to, and their bytes in it."""
     name, rest = words[0], words[1:]
@@ -90,22 +107,24 @@ def line_bytes(words):
         raise ValueError(f"unknown word '{name}' (known: {', '.join(FORMS)})")
     if name == "rule":
         return MODEL, rule_bytes(rest)
+    if name == "move":
+        return COUNTER, move_bytes(rest)
     if name == "bytes":
         if len(rest) < 2 or rest[0] not in BYTES_FOR:
             raise ValueError(f"expected: {FORMS[name]}")
         return BYTES_FOR[rest[0]], bytes(whole_number(word, 1) for word in rest[1:])
     if len(words) != len(FORMS[name].split()):
         raise ValueError(f"expected: {FORMS[name]}")
-    if name in ("record", "kind"):
-        return MODEL if name == "record" else DELIVERY, packed(rest)
+    if name in RAW:
+        return RAW[name], packed(rest)
     if name == "steps":
         rest = [*rest[:2], "0", rest[2]]
     return DELIVERY, packed([str(KINDS[name]), *rest])
 
 
 def files_from_text(lines, text_name="text"):
-    """Gives both files' bytes, by file name, for the lines of a text."""
-    files = {MODEL: bytearray(), DELIVERY: bytearray()}
+    """Gives the files' bytes, by file name, for the lines of a text."""
+    files = {name: bytearray() for name in RECORD_SIZE}
     for line_number, line in enumerate(lines, start=1):
         words = line.split("#", 1)[0].split()
         if not words:
@@ -115,7 +134,13 @@ def files_from_text(lines, text_name="text"):
         except ValueError as error:
             raise ValueError(f"{text_name}, line {line_number}: {error}") from None
         files[name] += data
-    return {name: bytes(data) for name, data in files.items()}
+    return kept({name: bytes(data) for name, data in files.items()})
+
+
+def kept(files):
+    """Gives the files that a folder has: a counter file where it has bytes, and then a model only where that has too."""
+    return {name: data for name, data in files.items()
+            if data or name == DELIVERY or (name == MODEL and not files[COUNTER])}
 
 
 def rule_text(record):
@@ -126,6 +151,15 @@ def rule_text(record):
         return f"record {p} {Z} {q} {L} {Y} {X}  {weight}"
     pushed = " ".join([":", *map(str, (Y, X)[:L])]) if L else ""
     return f"rule {p} {Z} -> {q} {pushed:8} {weight}"
+
+
+def move_text(record):
+    """Gives the line for a record of a counter file."""
+    u, v, d, fourth = record[:4]
+    weight = int.from_bytes(record[4:], "little")
+    if d > 2 or fourth:
+        return f"counter {u} {v} {d} {fourth}  {weight}"
+    return f"move {u} -> {v} {WAYS[d]:6} {weight}"
 
 
 def bound_text(record):
@@ -151,9 +185,20 @@ def file_text(name, data, word, record_text):
 
 def text_from_files(files):
     """Gives the text that `write` turns into exactly these files."""
-    lines = file_text(MODEL, files[MODEL], "model", rule_text)
-    lines += [""] + file_text(DELIVERY, files[DELIVERY], "delivery", bound_text)
-    return "\n".join(lines) + "\n"
+    forms = {COUNTER: ("counter", move_text), MODEL: ("model", rule_text), DELIVERY: ("delivery", bound_text)}
+    parts = ["\n".join(file_text(name, data, *forms[name])) + "\n" for name, data in files.items()]
+    return "\n".join(parts)
+
+
+def made_model(counter):
+    """Gives the model that a counter file makes: move for move a rule on symbol 0 that pushes 0, 1 or 2 of it."""
+    if len(counter) % RECORD_SIZE[COUNTER]:
+        raise ValueError(f"{COUNTER} ends within a record")
+    records = [counter[start:start + 8] for start in range(0, len(counter), 8)]
+    for place, (_, _, d, fourth, *_) in enumerate(records):
+        if d > 2 or fourth:
+            raise ValueError(f"{COUNTER}, record {place} is no move")
+    return b"".join(bytes([u, 0, v, d, 0, 0, *weight]) for u, v, d, _, *weight in records)
 
 
 def where(number, place):
@@ -165,6 +210,8 @@ def where(number, place):
         return f"{file}, the file as a whole"
     if counted == "row":
         return f"{file}, row {place} (row p Z has the number p x symbols + Z)"
+    if counted == "state":
+        return f"{file}, state {place}"
     start = place * RECORD_SIZE[file]
     return f"{file}, record {place} (from 0; bytes {start} to {start + RECORD_SIZE[file] - 1})"
 
@@ -194,13 +241,13 @@ def explain(number, place, shortfall):
 
 def refusal_table():
     """Gives one line for each refusal."""
-    places = {"record": ", one record", "row": ", one row"}
+    places = {"record": ", one record", "row": ", one row", "state": ", one state"}
     return "\n".join(f"{number}  {file or 'register'}{places.get(counted, '')}: {wrong}"
                      for number, (file, counted, wrong) in REFUSALS.items())
 
 
 def write_command(text, folder=None):
-    """Writes both files; a text that cannot be read writes none."""
+    """Writes the files; a text that cannot be read writes none."""
     folder = Path(folder) if folder else Path(text).parent
     with open(text, encoding="utf-8-sig", errors="replace") as lines:
         files = files_from_text(lines, text)
@@ -209,13 +256,25 @@ def write_command(text, folder=None):
         (folder / name).write_bytes(data)
 
 
-def read_command(folder="."):
-    """Prints both files as a text; a missing file counts as empty."""
+def files_in(folder):
+    """Gives a folder's files; a missing file counts as empty."""
     if not Path(folder).is_dir():
         raise ValueError(f"{folder} is not a folder")
     paths = {name: Path(folder) / name for name in RECORD_SIZE}
-    files = {name: path.read_bytes() if path.exists() else b"" for name, path in paths.items()}
-    print(text_from_files(files), end="")
+    return {name: path.read_bytes() if path.exists() else b"" for name, path in paths.items()}
+
+
+def read_command(folder="."):
+    """Prints the files as a text."""
+    print(text_from_files(kept(files_in(folder))), end="")
+
+
+def made_command(folder="."):
+    """Prints the text of the files with the made model in the place of the counter file."""
+    files = files_in(folder)
+    if not files[COUNTER]:
+        raise ValueError(f"{folder} has no {COUNTER}")
+    print(text_from_files({MODEL: made_model(files[COUNTER]), DELIVERY: files[DELIVERY]}), end="")
 
 
 def explain_command(*words):
@@ -229,7 +288,7 @@ def explain_command(*words):
 
 def main(words):
     """Runs the command that the words name and gives the exit status."""
-    commands = {"write": (write_command, (1, 2)), "read": (read_command, (0, 1)),
+    commands = {"write": (write_command, (1, 2)), "read": (read_command, (0, 1)), "made": (made_command, (0, 1)),
                 "explain": (explain_command, (0, 3))}
     command, counts = commands.get(words[0] if words else "", (None, ()))
     if len(words) - 1 not in counts:

@@ -1,12 +1,16 @@
-"""Checks models and deliveries as document 01 words it, and sums chances and mean steps over runs, all in exact whole numbers."""
+"""Checks models and deliveries as document 01 words it, and counter files as request A.2 does, and sums chances and mean steps over runs, all in exact whole
+numbers."""
+import itertools
 import struct
 from collections import namedtuple
 from functools import lru_cache
+from math import prod
 from operator import mul
 
 # The reasons, each named once.
 (MODEL_LENGTH, FIELD_RANGE, UNUSED_NOT_ZERO, WEIGHT_RANGE, NOT_ASCENDING, ROW_SUM) = range(10, 16)
 (DELIVERY_LENGTH, NOT_DUE, VALUE_RANGE, DEAD_NOT_ZERO, UPPER_FAILS, LOWER_ABOVE_UPPER, LOWER_FAILS, MEAN_FAILS) = range(20, 28)
+(COUNTER_LENGTH, MOVE_WRONG, STATE_SUM) = range(46, 49)
 ACCEPTED = (0, 0, 0)
 
 UPPER, LOWER, MEAN = 85, 76, 82  # kind bytes
@@ -14,8 +18,10 @@ SHAPES = {"U": (UPPER,), "UL": (UPPER, LOWER), "UR": (UPPER, MEAN), "ULR": (UPPE
 VALUE_RANGES = {UPPER: (0, 2097152), LOWER: (0, 2097152), MEAN: (256, 4194304)}
 CERTAIN = 65536  # the weight of chance 1
 ONE = 1 << 20  # chance 1 as an upper, a lower or a margin
+DOWN, LEVEL, UP = range(3)  # what d says of a move
 
 Rule = namedtuple("Rule", "p z q length y x weight")
+Move = namedtuple("Move", "u v d zero weight")
 Figures = namedtuple("Figures", "upper lower mean")  # lower and mean are None where the shape lacks them
 
 
@@ -288,7 +294,62 @@ def printed(model, delivery):
     return "".join(line + "\n" for line in lines)
 
 
-CACHED = (check_model, table_of, check_delivery)
+# The counter file, and the model that it makes (request A.2).
+
+def moves_of(counter):
+    return [Move(*fields) for fields in struct.iter_unpack("<4BI", counter)]
+
+
+@lru_cache(maxsize=4096)
+def check_counter(counter):
+    """(0, 0) when the counter file is accepted, else the first reason's number and its place."""
+    if not counter_length_passes(len(counter)):
+        return COUNTER_LENGTH, 0
+    moves = moves_of(counter)
+    return move_refusal(moves) or state_sum_refusal(moves) or (0, 0)
+
+
+def counter_length_passes(length):
+    return 0 < length <= 1536 and length % 8 == 0
+
+
+def move_refusal(moves):
+    for place, move in enumerate(moves):
+        if not move_passes(move) or (place and not move_ascends(moves[place - 1], move)):
+            return MOVE_WRONG, place
+    return None
+
+
+def move_passes(move):
+    return move.u <= 7 and move.v <= 7 and move.d <= 2 and move.zero == 0 and 1 <= move.weight <= CERTAIN
+
+
+def move_ascends(before, move):
+    return (before.u, before.v, before.d) < (move.u, move.v, move.d)
+
+
+def states_named(moves):
+    """Every state up to the greatest that is named as u or v."""
+    return range(1 + max(max(move.u, move.v) for move in moves))
+
+
+def state_sum_refusal(moves):
+    for state in states_named(moves):
+        if sum(move.weight for move in moves if move.u == state) != CERTAIN:
+            return STATE_SUM, state
+    return None
+
+
+def made_model(counter):
+    """The model file that an accepted counter file makes: record by record the rule (u, symbol 0) -> v that pushes d symbols 0, of the same weight."""
+    return b"".join(map(made_record, moves_of(counter)))
+
+
+def made_record(move):
+    return struct.pack("<6BI", move.u, 0, move.v, move.d, 0, 0, move.weight)
+
+
+CACHED = (check_model, table_of, check_delivery, check_counter)
 
 
 def forget():
@@ -362,3 +423,75 @@ def sums_by_lists(rules, p, z, n):
         if not left or len(run) == n:
             mean += product * len(run)
     return returned, mean
+
+
+# First passage to zero of a counter machine, from moves alone (request A.2; document 000, section 5).
+
+def passage_sums(moves, u):
+    """For n = 0, 1, ...: {v: the chance of first reaching zero in v within n moves, from u with count 1}, and the mean of moves counted to n, both over 65536**n."""
+    standing, passed, passed_moves, n = {(u, 1): 1}, {}, 0, 0
+    while True:
+        yield passed, passed_moves + n * sum(standing.values())
+        n += 1
+        after = moved(moves, standing)
+        ended = {v: product for (v, count), product in after.items() if count == 0}
+        passed = {v: passed.get(v, 0) * CERTAIN + ended.get(v, 0) for v in {**passed, **ended}}
+        passed_moves = passed_moves * CERTAIN + n * sum(ended.values())
+        standing = {place: product for place, product in after.items() if goes_on(place[1])}
+
+
+def moved(moves, standing):
+    """{(state, count): product of chances} after one move more."""
+    after = {}
+    for (state, count), product in standing.items():
+        for move in (move for move in moves if move.u == state):
+            place = (move.v, count_after(count, move))
+            after[place] = after.get(place, 0) + product * move.weight
+    return after
+
+
+def passage_by_lists(moves, u, n):
+    """The same chances from each list of moves by itself, without those that are 0; only for tiny n and few moves."""
+    passed = {}
+    for length in range(n + 1):
+        for run in itertools.product(moves, repeat=length):
+            end = end_of(run, u)
+            if end is not None:
+                passed[end] = passed.get(end, 0) + prod(move.weight for move in run) * CERTAIN ** (n - length)
+    return passed
+
+
+def end_of(run, u):
+    """The state in which a list of moves from u, at the count 1, first brings the count to 0 by its last move; None where it does not, or is no run."""
+    state, count = u, 1
+    for move in run:
+        if count == 0 or move.u != state:
+            return None
+        state, count = move.v, count + move.d - 1
+    return state if count == 0 else None
+
+
+def count_after(count, move):
+    return count + {DOWN: -1, LEVEL: 0, UP: 1}[move.d]
+
+
+def goes_on(count):
+    return count > 0
+
+
+def chances_of(moves, j, u):
+    """{v: the weight of the move from u to v of this kind}, p_uv of equation (19) in 65,536ths."""
+    found = {}
+    for move in moves:
+        if move.u == u and move.d == j:
+            found[move.v] = found.get(move.v, 0) + move.weight
+    return found
+
+
+def passage_side(moves, x, u, v):
+    """The right side of equation (19) for x_uv in 1/2^56, of numbers x[u][v] in 1/2^20."""
+    states = range(len(x))
+    down, level, up = (chances_of(moves, j, u) for j in (DOWN, LEVEL, UP))
+    by_level = sum(level.get(w, 0) * x[w][v] for w in states)
+    by_up = sum(up.get(y, 0) * sum(x[y][z] * x[z][v] for z in states) for y in states)
+    return (down.get(v, 0) << 40) + (by_level << 20) + by_up

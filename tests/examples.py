@@ -1,5 +1,5 @@
 #!/usr/bin/env python3
-"""Checks the examples: their files, the script bounds.py, and what a program prints for them."""
+"""Checks the examples: their files, the script bounds.py, and what the programs print for them."""
 
 import argparse
 import random
@@ -13,9 +13,12 @@ SCRIPT = EXAMPLES / "bounds.py"
 sys.dont_write_bytecode = True
 sys.path.insert(0, str(EXAMPLES))
 import bounds  # noqa: E402 (the folder of examples has to be on the path first)
+import checker  # noqa: E402
 
-NAMES = ("model.tab", "bounds.cer")
-NUMBERS = [*range(10, 16), *range(20, 28), *range(40, 46)]
+NAMES = ("counter.tab", "model.tab", "bounds.cer")
+PRINTED = {"model.tab": ("expected.txt",), "counter.tab": ("calls.txt", "replies.txt")}  # what stands beside a file: what showbounds prints; calls, and the desk's replies
+NUMBERS = [*range(10, 16), *range(20, 28), *range(40, 49)]
+PLACED = [*range(11, 16), *range(21, 28), 47, 48]  # the numbers that name a place
 BAD_TEXTS = [  # text, the line at fault
     ("rule 0 0 -> 0 65536\nrul 0 0 -> 0 65536\n", 2),
     ("# comment\n\nrule 0 0 -> 256 65536\n", 3),
@@ -31,6 +34,15 @@ BAD_TEXTS = [  # text, the line at fault
     ("bytes model 256\n", 1),
     ("bytes neither 1\n", 1),
     ("bytes model\n", 1),
+    ("move 0 -> 0 down 65536\nmove 0 -> 0 sideways 65536\n", 2),
+    ("move 0 -> 0 65536\n", 1),
+    ("move 0 0 down 65536\n", 1),
+    ("move 0 -> 256 up 65536\n", 1),
+    ("move 0 -> 0 up 4294967296\n", 1),
+    ("move 0 -> 0 2 65536\n", 1),
+    ("counter 0 0 0 65536\n", 1),
+    ("counter 0 0 0 256 65536\n", 1),
+    ("bytes counter\n", 1),
 ]
 
 
@@ -47,16 +59,22 @@ def run_script(*words):
 
 
 def files_in(folder):
-    """Gives the bytes of a folder's two files by name."""
-    return {name: (folder / name).read_bytes() for name in NAMES}
+    """Gives the bytes of a folder's files by name."""
+    return {name: (folder / name).read_bytes() for name in NAMES if (folder / name).exists()}
+
+
+def folders_with(name):
+    return {path.parent for path in EXAMPLES.rglob(name)}
 
 
 def example_folders():
-    """Gives every folder of examples that has an expected output."""
-    folders = sorted(path.parent for path in EXAMPLES.rglob("expected.txt"))
-    with_files = {path.parent for name in NAMES for path in EXAMPLES.rglob(name)}
-    require(folders and set(folders) == with_files, "a folder lacks its files or its expected.txt")
-    return folders
+    """Gives every folder of examples that has a model, and every one that has a counter file."""
+    models, counters = (folders_with(name) for name in PRINTED)
+    for name, beside in PRINTED.items():
+        for other in beside:
+            require(folders_with(name) == folders_with(other), f"a folder lacks its {name} or its {other}")
+    require(models and counters and not models & counters and models | counters == folders_with("bounds.cer"), "a folder lacks its files")
+    return sorted(models), sorted(counters)
 
 
 def check_round_trip(files, what):
@@ -95,8 +113,9 @@ def check_random_files(count):
     """Checks the round trip on random bytes, every form of line among them."""
     source, seen = random.Random(20), set()
     for turn in range(count):
-        files = {"model.tab": random_bytes(source, (0, 0, 0, 1, 2, 3)),
+        files = {"counter.tab": random_bytes(source, (0, 0, 0, 1, 2, 3)) if turn % 2 else b"", "model.tab": random_bytes(source, (0, 0, 0, 1, 2, 3)),
                  "bounds.cer": random_bytes(source, (85, 76, 82, 82, 0, 0, 1))}
+        files = bounds.kept(files)
         check_round_trip(files, f"random files {turn}")
         seen |= {line.split()[0] for line in bounds.text_from_files(files).splitlines() if line}
     missing = set(bounds.FORMS) - seen
@@ -107,7 +126,7 @@ def check_missing_files():
     """Checks that missing files read as empty ones."""
     with tempfile.TemporaryDirectory() as temporary:
         done = run_script("read", temporary)
-    empty = bounds.text_from_files({name: b"" for name in NAMES})
+    empty = bounds.text_from_files({"model.tab": b"", "bounds.cer": b""})
     require(done.returncode == 0 and done.stdout == empty, "missing files do not read as empty")
 
 
@@ -129,12 +148,16 @@ def check_explanations():
     require([int(line.split()[0]) for line in table] == NUMBERS, "the table's numbers are wrong")
     for number in NUMBERS:
         shortfall = -1 if number in (24, 26, 27) else 0
-        place = 3 if number in range(11, 16) or number in range(21, 28) else 0
+        place = 3 if number in PLACED else 0
         done = run_script("explain", number, place, shortfall)
         require(done.returncode == 0 and done.stdout.strip(), f"{number} is not explained")
         require(str(place) in done.stdout or not place, f"{number}: the place is not named")
         unit = "1/2^44 of a step" if number == 27 else "1/2^56"
         require((unit in done.stdout) == (shortfall < 0), f"{number}: the unit is wrong")
+        file = {1: "model.tab", 2: "bounds.cer"}.get(number // 10, "counter.tab" if number > 45 else "the register")
+        require(done.stdout.startswith(file), f"{number}: {file} is not named")
+        done = run_script("explain", number, 1, 0)
+        require((done.returncode == 0) == (number in PLACED and number not in (26, 27)), f"{number}: place 1 is explained, or is not")
     for number in set(range(60)) - set(NUMBERS):
         try:
             bounds.explain(number, 0, 0)
@@ -153,32 +176,76 @@ def check_program(program, folder):
     require(done.stdout == expected, f"{folder}: printed {done.stdout!r}, expected {expected!r}")
 
 
+def check_made(folder):
+    """Checks that the made model that bounds.py prints is the checker's, and that the text gives it and the delivery."""
+    files = files_in(folder)
+    with tempfile.TemporaryDirectory() as temporary:
+        text = Path(temporary, "made.txt")
+        text.write_text(run_script("made", folder).stdout, encoding="utf-8")
+        run_script("write", text, Path(temporary, "made"))
+        written = files_in(Path(temporary, "made"))
+    require(written == {"model.tab": checker.made_model(files["counter.tab"]), "bounds.cer": files["bounds.cer"]}, f"{folder}: made gives other files")
+
+
+def check_not_made():
+    """Checks that files that make no model are told, and nothing is printed."""
+    with tempfile.TemporaryDirectory() as temporary:
+        require(run_script("made", temporary).returncode == 1, "a model is made of no counter file")
+        for wrong in (bytes(7), bytes(8) + b"\0\0\3\0" + bytes(4), b"\0\0\0\1" + bytes(4)):
+            Path(temporary, "counter.tab").write_bytes(wrong)
+            done = run_script("made", temporary)
+            require(done.returncode == 1 and not done.stdout and "counter.tab" in done.stderr, f"a model is made of {wrong!r}")
+
+
+def replies_of(desk, calls):
+    """Gives what a desk program replies in the repository's folder; without one, what the plain pair does."""
+    command = [desk] if desk else [sys.executable, "-B", str(Path(__file__).parent / "plainpair.py")]
+    return subprocess.run(command, cwd=EXAMPLES.parent, input=calls, capture_output=True, timeout=60).stdout
+
+
+def check_calls(desk, folder):
+    """Compares the replies to a folder's calls."""
+    calls, due = (folder / "calls.txt").read_bytes(), (folder / "replies.txt").read_bytes()
+    for program in {None, desk}:
+        printed = replies_of(program, calls)
+        require(printed == due, f"{folder}: replied {printed!r}, expected {due!r}")
+
+
 def check_refusals_explained(folders):
-    """Checks that the refusals in expected.txt are ones that bounds.py explains."""
+    """Checks that a refusal in expected.txt stands alone, and that bounds.py explains every one, also those in replies.txt."""
     for folder in folders:
-        words = (folder / "expected.txt").read_text(encoding="utf-8").split()
-        if words[0] == "refused":
-            require(len(words) == 4, f"{folder}: expected.txt is not one refusal")
-            done = run_script("explain", *words[1:])
-            require(done.returncode == 0, f"{folder}: {done.stderr}")
+        path = next(folder / name for name in ("expected.txt", "replies.txt") if (folder / name).exists())
+        lines = path.read_text(encoding="utf-8").splitlines()
+        refusals = [line.split() for line in lines if line.startswith("refused")]
+        require(len(lines) == 1 or not refusals or path.name == "replies.txt", f"{folder}: expected.txt is not one refusal")
+        for _, *words in refusals:
+            done = run_script("explain", *words)
+            require(len(words) == 3 and done.returncode == 0, f"{folder}: {done.stderr}")
 
 
 def main():
     """Runs all checks; the first failure ends the run with exit status 1."""
     parser = argparse.ArgumentParser(description=__doc__)
     parser.add_argument("--program", metavar="FILE", help="also run this showbounds on each example")
-    program = parser.parse_args().program
-    folders = example_folders()
+    parser.add_argument("--desk", metavar="FILE", help="also run this desk on the calls of each example that has some")
+    options = parser.parse_args()
+    program, desk = (path and str(Path(path).resolve()) for path in (options.program, options.desk))
+    models, counters = example_folders()
+    folders = models + counters
     for folder in folders:
         check_folder(folder)
-        if program:
-            check_program(str(Path(program).resolve()), folder)
+    for folder in models if program else []:
+        check_program(program, folder)
+    for folder in counters:
+        check_made(folder)
+        check_calls(desk, folder)
+    check_not_made()
     check_refusals_explained(folders)
     check_random_files(300)
     check_missing_files()
     check_bad_texts()
     check_explanations()
-    ran = "with the program's output" if program else "no program run"
+    ran = "with the programs' output" if program and desk else "with one program's output" if program or desk else "no program run"
     print(f"examples: {len(folders)} folders, 300 random files, {len(BAD_TEXTS)} bad texts,"
           f" {len(NUMBERS)} refusals explained, {ran}: all as expected")
 

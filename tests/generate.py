@@ -1,4 +1,4 @@
-"""Makes the cases: the edges of document 01, deliveries accepted at the edge, and changes of them by one number, one record or some bytes."""
+"""Makes the cases: the edges of document 01, deliveries accepted at the edge, and changes of them by one number, one record or some bytes. So for counter files (request A.2)."""
 import itertools
 import random
 import struct
@@ -480,3 +480,199 @@ def cases(seed, count):
             if made < count:
                 yield case
             made += 1
+
+
+# Counter files (request A.2).
+
+def counter_file(moves):
+    """The file of moves (u, v, d, weight)."""
+    return b"".join(struct.pack("<4BI", u, v, d, 0, weight) for u, v, d, weight in moves)
+
+
+QUEUE = counter_file([(0, 0, 0, 32768), (0, 0, 2, 16384), (0, 1, 1, 16384), (1, 0, 1, 8192), (1, 1, 0, 32768), (1, 1, 2, 24576)])
+QUEUE_FIGURES = Figures([737280, 368640, 229376, 884736], [688128, 311296, 172032, 811008], [2048, 2560])
+
+
+def queue_delivery(**changed):
+    """The queue's delivery with some of its blocks changed; a block that is None is left out."""
+    return delivery_file(checker.table_of(checker.made_model(QUEUE)), QUEUE_FIGURES._replace(**changed))
+
+
+def largest_counter():
+    """8 states and every move that there is: 192 records."""
+    weights = [2746] + [2730] * 23
+    return counter_file((u, v, d, weights[3 * v + d]) for u in range(8) for v in range(8) for d in range(3))
+
+
+def counter_edges():
+    """(label, counter file, number and place as request A.2 has them)."""
+    one, largest = (0, 0, 0, 65536), largest_counter()
+    yield "the queue", QUEUE, (0, 0)
+    yield "one move", counter_file([one]), (0, 0)
+    yield "no bytes", b"", (46, 0)
+    yield "a byte too few", QUEUE[:-1], (46, 0)
+    yield "a byte too many", QUEUE + b"\0", (46, 0)
+    yield "four bytes too few", QUEUE[:-4], (46, 0)
+    yield "192 records", largest, (0, 0)
+    yield "192 records less a byte", largest[:-1], (46, 0)
+    yield "192 records and a byte", largest + b"\0", (46, 0)
+    yield "193 records, all but the last in order", largest + largest[-8:], (46, 0)
+    yield "193 records, the first wrong", b"\x08" + largest[1:] + largest[-8:], (46, 0)
+    yield "twice as long", largest * 2, (46, 0)
+    yield from wrong_records()
+    yield from wrong_order()
+    yield from wrong_sums()
+
+
+def wrong_records():
+    """47 for a field, by the record's place, before any sum is looked at."""
+    good = [(0, 0, 0, 32768), (0, 1, 2, 32768), (1, 0, 1, 65536)]
+    for at, place in ((0, "first"), (1, "second"), (2, "last")):
+        for field, value in ((0, 8), (1, 8), (2, 3), (0, 255), (1, 255), (2, 255), (3, 1), (3, 255)):
+            changed = bytearray(counter_file(good))
+            changed[8 * at + field] = value
+            yield "byte %d of the %s record %d" % (field, place, value), bytes(changed), (47, at)
+        for weight in (0, 65537, 65536 + 2**24, 2**24, 2**31, 2**32 - 1):
+            moves = good[:at] + [(*good[at][:3], weight)] + good[at + 1:]
+            yield "weight %d in the %s record" % (weight, place), counter_file(moves), (47, at)
+    yield "state 7", counter_file([(u, 7, 0, 65536) for u in range(8)]), (0, 0)
+
+
+def wrong_order():
+    yield "two equal records", counter_file([(0, 0, 0, 32768)] * 2), (47, 1)
+    yield "equal but for the weight", counter_file([(0, 0, 0, 30000), (0, 0, 0, 35536)]), (47, 1)
+    yield "d descends", counter_file([(0, 0, 2, 32768), (0, 0, 0, 32768)]), (47, 1)
+    yield "v descends while d ascends", counter_file([(0, 1, 0, 32768), (0, 0, 2, 32768), (1, 0, 0, 65536)]), (47, 1)
+    yield "u descends while v and d ascend", counter_file([(1, 0, 0, 65536), (0, 1, 2, 65536)]), (47, 1)
+    yield "in order by (v, u, d)", counter_file([(0, 0, 0, 32768), (1, 0, 0, 65536), (0, 1, 0, 32768)]), (47, 2)
+    yield "in order by (u, v, d), not by (v, u, d)", counter_file([(0, 1, 0, 65536), (1, 0, 0, 65536)]), (0, 0)
+    yield "in order by (u, v, d), not by (u, d, v)", counter_file([(0, 0, 2, 32768), (0, 1, 0, 32768), (1, 0, 0, 65536)]), (0, 0)
+    yield "the second of three out of order, the third wrong", counter_file([(0, 0, 1, 32768), (0, 0, 0, 32768), (9, 0, 0, 1)]), (47, 1)
+    yield "the second of three wrong, the third out of order", counter_file([(0, 0, 1, 32768), (0, 9, 0, 32768), (0, 0, 0, 1)]), (47, 1)
+
+
+def wrong_sums():
+    yield "a sum of 65,535", counter_file([(0, 0, 0, 65535)]), (48, 0)
+    yield "a sum of 65,537", counter_file([(0, 0, 0, 65536), (0, 0, 1, 1)]), (48, 0)
+    yield "a sum of 131,072", counter_file([(0, 0, 0, 65536), (0, 0, 1, 65536)]), (48, 0)
+    yield "a state named as v alone", counter_file([(0, 1, 0, 65536)]), (48, 1)
+    yield "a state named as u alone", counter_file([(0, 0, 0, 65536), (1, 0, 0, 65535)]), (48, 1)
+    yield "a state that is not named, below one that is", counter_file([(0, 0, 0, 65536), (2, 2, 0, 65536)]), (48, 1)
+    yield "state 0 not named", counter_file([(1, 1, 0, 65536)]), (48, 0)
+    yield "the last state's sum", counter_file([*((u, u, 0, 65536) for u in range(7)), (7, 7, 0, 65535)]), (48, 7)
+    yield "two states' sums", counter_file([(0, 0, 0, 65536), (1, 1, 0, 1), (2, 2, 0, 1)]), (48, 1)
+    yield "sums wrong and a last record wrong", counter_file([(0, 0, 0, 1), (1, 1, 0, 1), (2, 2, 3, 1)]), (47, 2)
+    yield "a wrong sum, and a length that is none", counter_file([(0, 0, 0, 1)]) + b"\0", (46, 0)
+
+
+def random_moves(rng, u, states, count, favoured):
+    """About `count` moves of a state; with a favoured weight the first of them goes down."""
+    heads = [(rng.randrange(states), 0)] if favoured else []
+    for _ in range(4 * count):
+        head = (rng.randrange(states), rng.randrange(3))
+        if len(heads) < count and head not in heads:
+            heads.append(head)
+    return [(u, *head, weight) for head, weight in zip(heads, random_weights(rng, len(heads), favoured))]
+
+
+def random_counter(rng):
+    """A counter file that is accepted, mostly of few states; now and then of up to 8 and 192 records."""
+    lot, favoured = rng.randrange(100), rng.choice((0, 0, 20480, 36864))
+    states, counts = rng.randint(1, 3), (1, 5)
+    if lot < 12:
+        states, counts, favoured = rng.randint(4, 8), rng.choice(((1, 3), (2, 6), (24, 24))), 36864
+    return counter_file(sorted(move for u in range(states) for move in random_moves(rng, u, states, min(3 * states, rng.randint(*counts)), favoured)))
+
+
+# Changes of a counter file. Each takes (rng, the file) and hands back a file.
+
+def counter_byte(rng, counter):
+    """One byte of a record moved by 1 or set to another value."""
+    changed, at = bytearray(counter), 8 * rng.randrange(len(counter) // 8) + rng.randrange(8)
+    changed[at] = rng.choice(((changed[at] + 1) % 256, (changed[at] - 1) % 256, 3, 8, 128, 255))
+    return bytes(changed)
+
+
+def counter_beyond(rng, counter):
+    """One field of a record just beyond its range."""
+    changed, at = bytearray(counter), 8 * rng.randrange(len(counter) // 8)
+    field, value = rng.choice(((0, b"\x08"), (1, b"\x08"), (2, b"\x03"), (3, b"\x01"), (4, bytes(4)), (4, b"\x01\x00\x01\x00")))
+    changed[at + field:at + field + len(value)] = value
+    return bytes(changed)
+
+
+def counter_weight(rng, counter):
+    changed, at = bytearray(counter), 8 * rng.randrange(len(counter) // 8) + 4
+    weight = int.from_bytes(changed[at:at + 4], "little")
+    chosen = rng.choice((0, 1, 65536, 65537, weight + 1, max(1, weight - 1), weight + 2**24, 2**32 - 1))
+    changed[at:at + 4] = (chosen % 2**32).to_bytes(4, "little")
+    return bytes(changed)
+
+
+def counter_order(rng, counter):
+    """Two neighbours exchanged, or the order by (v, u, d) or (u, d, v)."""
+    records = split(counter, 8)
+    if rng.randrange(3):
+        at = rng.randrange(max(1, len(records) - 1))
+        return b"".join(records[:at] + records[at:at + 2][::-1] + records[at + 2:])
+    key = rng.choice(((1, 0, 2), (0, 2, 1)))
+    return b"".join(sorted(records, key=lambda record: [record[place] for place in key]))
+
+
+def counter_state_gone(rng, counter):
+    """A state without its moves, so that it may still be named as v."""
+    gone = rng.choice(split(counter, 8))[0]
+    return b"".join(record for record in split(counter, 8) if record[0] != gone) or counter
+
+
+def counter_state_alone(rng, counter):
+    """A further state, which no move goes to, mostly of a wrong sum."""
+    new = max(max(record[:2]) for record in split(counter, 8)) + 1
+    return counter + counter_file([(min(7, new), 0, rng.randrange(3), rng.choice((1, 65535, 65535, 65536)))])
+
+
+def counter_state_added(rng, counter):
+    """A move that goes to a state that has none."""
+    records = split(counter, 8)
+    at, new = rng.randrange(len(records)), min(7, max(record[0] for record in records) + rng.randint(1, 2))
+    return b"".join(sorted(records[:at] + [records[at][:1] + bytes([new]) + records[at][2:]] + records[at + 1:], key=lambda record: record[:3]))
+
+
+def counter_faults(rng, counter):
+    """Two faults at once, so that the order of reasons shows."""
+    for change in rng.sample((counter_byte, counter_weight, counter_order, counter_state_gone), 2):
+        counter = change(rng, counter)
+    return counter + rng.choice((b"", b"", b"\0"))
+
+
+def counter_length(rng, counter):
+    """Cut, longer by a byte or a record, or up to and beyond the greatest length."""
+    added = rng.choice((1, 4, 8, max(0, 1536 - len(counter)), max(0, 1544 - len(counter)), max(0, 1537 - len(counter))))
+    longer = (counter * (added // len(counter) + 2))[:len(counter) + added]
+    return rng.choice((longer, longer, counter[:-1], counter[:-8], counter[:-4], b"", counter[8:]))
+
+
+def counter_doubled(rng, counter):
+    return doubled(rng, counter, 8)
+
+
+def counter_noise(rng, counter):
+    return rng.randbytes(rng.choice((len(counter), 8 * rng.randint(1, 12), rng.randrange(200))))
+
+
+COUNTER_CHANGES = (counter_byte, counter_beyond, counter_beyond, counter_beyond, counter_weight, counter_weight, counter_order, counter_state_gone, counter_state_alone,
+                   counter_state_added, counter_faults, counter_faults, counter_length, counter_doubled, counter_noise)
+
+
+def counter_family(rng):
+    """One counter file with the accepted deliveries for the model that it makes, and changes of the one or the other, as (label, counter file, delivery)."""
+    counter = random_counter(rng)
+    table = checker.table_of(checker.made_model(counter))
+    bases = list(accepted_bases(rng, table)) or [("none stands", random_values(rng, table, Figures([0] * len(table.entries), None, None)))]
+    for label, figures in bases:
+        yield "accepted " + label, counter, delivery_file(table, figures)
+    for change in COUNTER_CHANGES:
+        yield change.__name__, change(rng, counter), delivery_file(table, rng.choice(bases)[1])
+    for _ in range(len(COUNTER_CHANGES) // 2):
+        change = rng.choice(FIGURE_CHANGES)
+        yield change.__name__, counter, delivery_file(table, change(rng, table, rng.choice(bases)[1]))

@@ -23,6 +23,7 @@ SECONDS = 20  # within which a run has to end, and a reply to come
 QUESTIONS, MOST_SYSTEM_CALLS = 100000, 1000
 READS = 70000  # more than a counter of 16 bits can count
 W_FILED = b"model w.tab\ndelivery w.cer\n"
+QUEUE_FILED = b"counter q.tab\ndelivery q.cer\n"
 FILLINGS = (b"a", b" ", b"0", b"#", b"\0", b"\xff", b"\r")
 LENGTHS = (1, 254, 263, 264, 299, 300, 301, 302, 4096, 65535, 65536, 65537, 100000, 131072)
 
@@ -38,7 +39,7 @@ class Room:
         self.program, self.root = program, root
         self.folder = scripts.make_folder(random.Random(1), 0)
         _, model, delivery, _ = next(generate.documented_edges())
-        self.folder.files.update({b"w.tab": model, b"w.cer": delivery, b"heavy.tab": b"", b"heavy.cer": b""})
+        self.folder.files.update({b"w.tab": model, b"w.cer": delivery, b"q.tab": generate.QUEUE, b"q.cer": generate.queue_delivery(), b"heavy.tab": b"", b"heavy.cer": b""})
         for label, model, delivery in generate.far_ends():
             if label == "a shortfall of 19 digits":
                 self.folder.files.update({b"heavy.tab": model, b"heavy.cer": delivery})
@@ -131,7 +132,7 @@ def any_pieces(room, rng):
 
 def any_end(room, rng):
     """The input may end anywhere, with or without a newline."""
-    script = W_FILED + b"margin\n\n# clear\nupper 0 0 1\nlive 1 0 0\nwithin 3 0 0 0\nclear\n"
+    script = W_FILED + b"margin\n\n# clear\nupper 0 0 1\nlive 1 0 0\nwithin 3 0 0 0\nclear\n" + QUEUE_FILED + b"upper 1 0 0\nwithin 2 1 0 1\nclear\n"
     for end in range(len(script) + 1):
         room.compare("ended after %d bytes" % end, script[:end], room.run_at_once(script[:end]))
     return "%d ends of one script" % (len(script) + 1)
@@ -139,17 +140,19 @@ def any_end(room, rng):
 
 def any_byte(room, rng):
     """Every byte before, within and after a call, in a path and in a comment."""
-    forms = (b"%bmargin", b"mar%bgin", b"margin%b", b"upper 0 %b 0", b"live 1 0%b0", b"within%b3 0 0 0", b"within 3 0 %b 1", b"model w.tab%b", b"delivery %bw.cer", b"#%b", b"%b")
+    forms = (b"%bmargin", b"mar%bgin", b"margin%b", b"upper 0 %b 0", b"live 1 0%b0", b"within%b3 0 0 0", b"within 3 0 %b 1", b"model w.tab%b", b"delivery %bw.cer",
+             b"counter q.tab%b", b"counter%bq.tab", b"#%b", b"%b")
     script = W_FILED + b"".join(form % bytes([byte]) + b"\n" for byte in range(256) for form in forms)
+    script += b"".join(b"clear\ncounter %bq.tab\nmargin\n" % bytes([byte]) for byte in range(256))
     room.compare("every byte", script, room.run_at_once(script))
     room.compare("every byte, a byte at a time", script, room.run_in_pieces(by_bytes(rng, script)))
-    return "every byte in %d places" % len(forms)
+    return "every byte in %d places" % (len(forms) + 1)
 
 
 def long_lines(room, rng):
     """Lines of many lengths, each between calls that show that nothing changed, and as the last line without a newline."""
     for filling in FILLINGS:
-        for start in (b"", b"#", b"model w.tab "):
+        for start in (b"", b"#", b"model w.tab ", b"counter q.tab"):
             lines = [start + filling * (length - len(start)) for length in LENGTHS if length >= len(start)]
             script = W_FILED + b"\nmargin\n".join(lines) + b"\nmargin\n" + lines[-2]
             room.compare("long lines", script, room.run_at_once(script))
@@ -268,12 +271,16 @@ def as_a_person(room, rng):
 
 def files_change(room, rng):
     """Files are read anew at each filing: they go missing, become others, become folders; what is held stays."""
-    model, delivery = room.folder.files[b"w.tab"], room.folder.files[b"w.cer"]
+    model, delivery, counter = (room.folder.files[name] for name in (b"w.tab", b"w.cer", b"q.tab"))
     steps = ((b"m", None, b"model m", "refused 10 0 0"), (b"m", model, b"model m", "accepted"), (b"m", None, b"upper 0 0 0", "refused 42 0 0"),
              (b"d", None, b"delivery d", "refused 20 0 0"), (b"d", delivery, b"delivery d", "new"), (b"d", None, b"margin", "value 45875"),
              (b"d", None, b"delivery d", "refused 20 0 0"), (b"d", None, b"margin", "value 45875"), (b"d", delivery[:32], b"delivery d", "known"),
              (b"d", delivery, b"margin", "refused 43 0 0"), (b"d", delivery, b"delivery d", "known"), (b"d", delivery, b"margin", "value 45875"),
-             (b"m", None, b"clear", "cleared"), (b"m", model[:-1], b"model m", "refused 10 0 0"), (b"m", model, b"model m", "accepted"))
+             (b"m", None, b"clear", "cleared"), (b"m", model[:-1], b"model m", "refused 10 0 0"), (b"m", model, b"model m", "accepted"),
+             (b"c", counter, b"counter c", "refused 41 0 0"), (b"c", None, b"clear", "cleared"), (b"c", None, b"counter c", "refused 46 0 0"),
+             (b"c", counter[:-1], b"counter c", "refused 46 0 0"), (b"c", counter[8:], b"counter c", "refused 48 0 0"), (b"c", counter + counter[:8], b"counter c", "refused 47 6 0"),
+             (b"c", counter, b"counter c", "accepted"), (b"c", None, b"within 1 0 0 0", "value 32768"), (b"c", None, b"counter c", "refused 41 0 0"),
+             (b"c", model, b"clear", "cleared"), (b"c", model, b"counter c", "refused 47 0 0"), (b"c", model, b"model c", "accepted"))
     driven = Driven(room)
     for name, data, line, reply in steps:
         room.put(name, data)
@@ -308,10 +315,11 @@ def no_file(room, rng):
     for path in (own, Path(room.root)):
         path.chmod(0o755)
     user = {"user": "nobody"} if os.getuid() == 0 else {}
-    done = subprocess.run([own], cwd=room.root, input=b"model secret\nmodel folder\nmodel gone\n", capture_output=True, timeout=SECONDS, **user)
-    if done.stdout != b"refused 10 0 0\n" * 3:
+    done = subprocess.run([own], cwd=room.root, input=b"model secret\nmodel folder\nmodel gone\ncounter secret\ncounter folder\ncounter gone\n", capture_output=True,
+                          timeout=SECONDS, **user)
+    if done.stdout != b"refused 10 0 0\n" * 3 + b"refused 46 0 0\n" * 3:
         fail("files that cannot be read do not count as empty: %r" % done.stdout)
-    if done.stderr != b"secret: Permission denied\nfolder: Is a directory\n":
+    if done.stderr != b"secret: Permission denied\nfolder: Is a directory\n" * 2:
         fail("warnings: %r" % done.stderr)
     return "files that cannot be read"
 
@@ -352,15 +360,17 @@ class AwaitedPipe:
 
 # Calls that name pipes, each with its reply and whether it gets a warning. Of a pipe that the register's own reasons keep it from there is none.
 PIPE_CALLS = ((b"delivery filled.cer", b"refused 40 0 0", False), (b"model unwritten", b"refused 10 0 0", True), (b"model link", b"refused 10 0 0", True),
+              (b"counter unwritten", b"refused 46 0 0", True), (b"counter link", b"refused 46 0 0", True), (b"counter filled.queue", b"refused 46 0 0", True),
               (b"model awaited", b"refused 10 0 0", True), (b"model filled.tab", b"refused 10 0 0", True), (b"model w.tab", b"accepted", False),
-              (b"model filled.tab", b"refused 41 0 0", False), (b"delivery filled.cer", b"refused 20 0 0", True), (b"delivery unwritten", b"refused 20 0 0", True))
+              (b"model filled.tab", b"refused 41 0 0", False), (b"delivery filled.cer", b"refused 20 0 0", True), (b"delivery unwritten", b"refused 20 0 0", True),
+              (b"counter filled.queue", b"refused 41 0 0", False), (b"counter awaited", b"refused 41 0 0", False))
 
 
 def named_pipes(room, rng):
     """A named pipe is never opened, whether it has a writer or not, and counts as empty, with a warning."""
     os.mkfifo(Path(room.root, "unwritten"))
     Path(room.root, "link").symlink_to("unwritten")
-    pipes = [FilledPipe(Path(room.root, "filled" + end), room.folder.files[b"w" + end.encode()]) for end in (".tab", ".cer")]
+    pipes = [FilledPipe(Path(room.root, "filled" + end), room.folder.files[name]) for end, name in ((".tab", b"w.tab"), (".cer", b"w.cer"), (".queue", b"q.tab"))]
     pipes.append(AwaitedPipe(Path(room.root, "awaited")))
     script = b"".join(line + b"\n" for line, _, _ in PIPE_CALLS)
     done = subprocess.run([room.program], cwd=room.root, input=script, capture_output=True, timeout=SECONDS)

@@ -1,5 +1,5 @@
 """A desk around the plain pair of document 01: the last accepted model since the last clearing, and the last delivery accepted for it, as bytes. Chances of
-short runs are those of request A.1.
+short runs are those of request A.1, and counter files those of request A.2, of which the model that they make is held.
 
 Reads calls as lines on standard input and prints the replies. Each method is one rule, so that tests/wrongdesks.py can change one at a time.
 """
@@ -11,10 +11,11 @@ from functools import lru_cache
 import checker
 
 NO_MODEL, MODEL_HELD, NO_DELIVERY, NO_BLOCK, NOT_OF_MODEL, TOO_MANY_STEPS = range(40, 46)
-MODEL_READ, DELIVERY_READ = 10241, 17409  # bytes read of a file: one more than any that can pass has
+MODEL_READ, DELIVERY_READ, COUNTER_READ = 10241, 17409, 1537  # bytes read of a file: one more than any that can pass has
 LONGEST_LINE, LONGEST_PATH, MOST_DIGITS = 300, 255, 9
 MOST_STEPS = 3  # of a chance that may be asked for
-ARGUMENTS = {b"clear": "", b"model": "f", b"delivery": "f", b"upper": "nnn", b"lower": "nnn", b"steps": "nn", b"margin": "", b"live": "nnn", b"within": "nnnn"}  # n: number, f: file
+ARGUMENTS = {b"clear": "", b"model": "f", b"counter": "f", b"delivery": "f", b"upper": "nnn", b"lower": "nnn", b"steps": "nn", b"margin": "", b"live": "nnn",
+             b"within": "nnnn"}  # n: number, f: file
 
 
 class Refused(Exception):
@@ -112,6 +113,14 @@ class PlainPair:
         self.hold_model(model)
         return "accepted"
 
+    def file_counter(self, path):
+        if self.model is not None:
+            raise Refused(MODEL_HELD)
+        counter = self.read(path, COUNTER_READ)
+        self.judge_counter(counter)
+        self.hold_model(self.made_of(counter))
+        return "accepted"
+
     def file_delivery(self, path):
         if self.model is None:
             raise Refused(NO_MODEL)
@@ -125,6 +134,15 @@ class PlainPair:
         number, place = checker.check_model(model)
         if number:
             raise Refused(number, place)
+
+    def judge_counter(self, counter):
+        number, place = checker.check_counter(counter)
+        if number:
+            raise Refused(number, place)
+
+    def made_of(self, counter):
+        """The model file that is held of an accepted counter file."""
+        return checker.made_model(counter)
 
     def judge_delivery(self, delivery):
         refusal = verdict(self.model, delivery)
@@ -257,8 +275,8 @@ class Desk(PlainPair):
         return name, [word if kind == "f" else self.number(word) for kind, word in zip(kinds, words)]
 
     def reply_to(self, name, arguments):
-        calls = {b"clear": self.clear, b"model": self.file_model, b"delivery": self.file_delivery, b"upper": self.upper, b"lower": self.lower,
-                 b"steps": self.steps, b"margin": self.margin, b"live": self.live, b"within": self.within}
+        calls = {b"clear": self.clear, b"model": self.file_model, b"counter": self.file_counter, b"delivery": self.file_delivery, b"upper": self.upper,
+                 b"lower": self.lower, b"steps": self.steps, b"margin": self.margin, b"live": self.live, b"within": self.within}
         try:
             return calls[name](*arguments)
         except Refused as refusal:

@@ -10,7 +10,7 @@ SHOWN = {"c": "examples/check.c", "python": "examples/desk.py"}  # each in one b
 REFUSED = re.compile(r"^(\./show examples/refused/\S+)$", re.M)  # commands that end with status 1
 HERE = re.compile(r"(?<=<<'END'\n).*?^END\n", re.S | re.M)  # what a command is given
 BLOCK = re.compile(r"^```(\w+)\n(.*?)^```\n", re.S | re.M)
-REASONS = [*range(10, 16), *range(20, 28), *range(40, 46)]
+REASONS = [*range(10, 16), *range(20, 28), *range(40, 49)]
 
 
 def blocks(text):

@@ -22,13 +22,16 @@ LINES = (5, 60)  # of a script, the fewest and the most
 ENOUGH = 1000  # scripts from which on every kind has to occur
 FEWEST = 5  # times, at least, that every reason and every kind of line must then occur
 MOST_SHOWN = 5  # mismatches shown before giving up
-REASONS = (*range(10, 16), *range(20, 28), *range(40, 46))
+REASONS = (*range(10, 16), *range(20, 28), *range(40, 49))
 REPLIES = ("cleared", "accepted", "known", "new", "value", "refused", "unclear", "none")
 FILED = tuple("%s %s" % (mark, shape) for mark in ("known", "new") for shape in checker.SHAPES)
 SHORT = ("within: value above 0", "within: value 0", "within: 40", "within: 44", "within: 45", "within: 40 before 45", "within: 44 before 45")
+COUNTERS = ("counter: accepted", "counter: 41 beside a model", "counter: 41 beside a counter", "model: 41 beside a counter", "counter: 46", "counter: 47 at 0", "counter: 47 further on",
+            "counter: 48 at 0", "counter: 48 further on", "beside a counter: new", "beside a counter: known", "beside a counter: value", "beside a counter: 24")
 RANDOM_MODELS, MODELS_OF_PAIRS = 800, 200  # whose short chances are all asked for
 MOST_WALKED = 40  # records of a model whose short chances are worked out once more, by the checker
 FEWEST_SHORT = 1000  # at least: short chances above 0, those with a part through a pair, and refusals by 45
+FILINGS = (b"model", b"counter", b"delivery")  # the calls that name a file
 CONTROLS = bytes([*range(10), *range(11, 32), 127])  # all but the newline
 SHARED_MEMORY = Path("/dev/shm")
 
@@ -36,14 +39,18 @@ SHARED_MEMORY = Path("/dev/shm")
 # Folders of files.
 
 class Folder:
-    """Files by name: the accepted models, with the deliveries made for each and the accepted ones among these, and other files."""
+    """Files by name: those that are accepted as a model and those as a counter file, each a theme (the call's word, the name) with the deliveries made for it and
+    the accepted ones among these; and other files."""
 
-    def __init__(self, cases):
+    def __init__(self, cases, counters=()):
         self.files, self.names, self.directories = {}, {}, {b"folder", b"sub"}
-        self.models, self.others, self.deliveries, self.certificates = [], [], {}, {}
+        self.themes, self.others, self.deliveries, self.certificates = [], {b"model": [], b"counter": []}, {}, {}
         for model, delivery in cases:
-            self.add_case(model, delivery)
-        self.others += [self.name_of(data) for data in (b"", bytes(20480), generate.largest_model() + b"\0", bytes(40960))]
+            self.add_case(b"model", model, model, delivery)
+        for counter, delivery in counters:
+            self.add_case(b"counter", counter, model_made(counter), delivery)
+        self.others[b"model"] += [self.name_of(data) for data in (b"", bytes(20480), generate.largest_model() + b"\0", bytes(40960))]
+        self.others[b"counter"] += [self.name_of(data) for data in (b"", bytes(2048), generate.largest_counter() + b"\0")]
 
     def name_of(self, data):
         """The name of the file with these bytes, a new one if there is none."""
@@ -52,18 +59,28 @@ class Folder:
             self.files[name], self.names[data] = data, name
         return self.names[data]
 
-    def add_case(self, model, delivery):
-        name, is_accepted = self.name_of(model), checker.check_model(model) == (0, 0)
-        group = self.models if is_accepted else self.others
-        if name not in group:
-            group.append(name)
+    def add_case(self, word, file, model, delivery):
+        """A file for one of the calls, with the model that it is or makes."""
+        name, is_accepted = self.name_of(file), checker.check_model(model) == (0, 0)
+        theme, group = ((word, name), self.themes) if is_accepted else (name, self.others[word])
+        if theme not in group:
+            group.append(theme)
         if is_accepted:
-            self.deliveries.setdefault(name, []).append(self.name_of(delivery))
+            self.deliveries.setdefault(theme, []).append(self.name_of(delivery))
         if checker.check_delivery(model, delivery) == checker.ACCEPTED:
-            self.certificates.setdefault(name, []).append(self.name_of(delivery))
+            self.certificates.setdefault(theme, []).append(self.name_of(delivery))
 
-    def table(self, model):
-        return checker.table_of(self.files[model])
+    def models(self):
+        """The names of the accepted models."""
+        return [name for word, name in self.themes if word == b"model"]
+
+    def model(self, theme):
+        """The model file that is held once the theme is filed."""
+        word, name = theme
+        return self.files[name] if word == b"model" else checker.made_model(self.files[name])
+
+    def table(self, theme):
+        return checker.table_of(self.model(theme))
 
     def write(self, root):
         for directory in self.directories:
@@ -79,6 +96,11 @@ class Folder:
                 warnings.append(path + b": Is a directory\n")
             return self.files.get(posixpath.normpath(path), b"")[:most]
         return read
+
+
+def model_made(counter):
+    """The model that a counter file makes; of one that is refused, no bytes, which are no model."""
+    return checker.made_model(counter) if checker.check_counter(counter) == (0, 0) else b""
 
 
 def new_name(number):
@@ -100,6 +122,24 @@ def chosen_cases(cases, most_of_a_kind):
     return chosen
 
 
+def chosen_counters(cases, most_of_a_kind):
+    """Of cases (label, counter file, delivery) at most so many for each reason, and each accepted shape, as pairs of files."""
+    kinds, chosen = Counter(), []
+    for _, counter, delivery in cases:
+        model = model_made(counter)
+        kind = checker.check_counter(counter)[0] or checker.check_delivery(model, delivery)[0] or checker.shape_of(checker.table_of(model), delivery)
+        kinds[kind] += 1
+        if kinds[kind] <= most_of_a_kind:
+            chosen.append((counter, delivery))
+    return chosen
+
+
+def far_counters():
+    """The largest counter file and longer ones, and states and records at the last place."""
+    largest = generate.largest_counter()
+    yield from ((counter, b"") for counter in (largest, largest + b"\0", largest[:-1], largest + largest[-8:], largest[:-4] + bytes(4), largest[:-8]))
+
+
 def far_cases():
     """The largest files, and files that would pass if their end were not read."""
     model, delivery = generate.largest_model(), generate.largest_certificate()
@@ -110,13 +150,15 @@ def far_cases():
 
 
 def make_folder(rng, number):
-    """Folder 0 has the edges of document 01, folder 1 the far ends, each other one two models with deliveries and changes of them."""
+    """Folder 0 has the edges of document 01 and of request A.2, folder 1 the far ends, each other one two models and two counter files with deliveries and changes of them."""
     if number == 0:
-        return Folder((model, delivery) for _, model, delivery, _ in generate.documented_edges())
+        queue, counters = [(generate.QUEUE, generate.queue_delivery())], [(counter, b"") for _, counter, _ in generate.counter_edges()]
+        return Folder([(model, delivery) for _, model, delivery, _ in generate.documented_edges()], queue + counters)
     if number == 1:
-        return Folder((model, delivery) for _, model, delivery in far_cases())
-    cases = [case for _ in range(2) for case in generate.family(rng)]
-    return Folder(chosen_cases(cases, 4))
+        return Folder([(model, delivery) for _, model, delivery in far_cases()], far_counters())
+    cases, counters = ([case for _ in range(2) for case in family(rng)] for family in (generate.family, generate.counter_family))
+    rng.shuffle(counters)
+    return Folder(chosen_cases(cases, 4), chosen_counters(counters, 5))
 
 
 # Calls.
@@ -157,11 +199,14 @@ def path_of(rng, name):
 
 
 def filing(rng, folder, theme):
-    """A model or a delivery: mostly of the theme's model, else of another, or a file that is missing or none."""
+    """A model, a counter file or a delivery: mostly the theme's, else another, one for another call, or a file that is missing or none."""
     absent, lot = [b"gone", b"folder", b"gone/1", b".", "fehlt-ü".encode()], rng.randrange(100)
     if rng.randrange(10) < 3:
-        name = theme if lot < 60 else rng.choice(folder.models if lot < 70 else folder.others if lot < 90 else absent)
-        return b"model " + path_of(rng, name)
+        word, name = theme if lot < 50 else rng.choice(folder.themes)
+        if lot >= 65:
+            word = rng.choice((b"model", b"counter"))
+            name = rng.choice(folder.others[word] if lot < 82 else list(folder.files) if lot < 92 else absent)
+        return word + b" " + path_of(rng, name)
     accepted, made = folder.certificates.get(theme), folder.deliveries[theme]
     names = accepted if accepted and lot < 50 else made if lot < 82 else list(folder.files) if lot < 90 else absent
     return b"delivery " + path_of(rng, rng.choice(names))
@@ -184,7 +229,7 @@ def put_in(rng, line, piece):
 def with_word(rng, line, word):
     """The line with one of the words after its call's name replaced; a question with such a word where it has none."""
     words = line.split(b" ")
-    if len(words) < 2 or words[0] in (b"model", b"delivery"):
+    if len(words) < 2 or words[0] in FILINGS:
         words = [b"upper", b"0", b"0", b"0"]
     words[rng.randrange(1, len(words))] = word
     return b" ".join(words)
@@ -203,7 +248,7 @@ def high_byte(rng, line):
 
 
 def too_few_words(rng, line):
-    return line.rpartition(b" ")[0] or rng.choice((b"model", b"delivery", b"upper", b"live 0 0", b"steps 0", b"within 0 0 0"))
+    return line.rpartition(b" ")[0] or rng.choice((*FILINGS, b"upper", b"live 0 0", b"steps 0", b"within 0 0 0"))
 
 
 def double_space(rng, line):
@@ -211,7 +256,7 @@ def double_space(rng, line):
 
 
 def path_too_long(rng, line):
-    return rng.choice((b"model ", b"delivery ")) + b"./" * 127 + b"./"[:1] + rng.choice((b"n", b"1"))
+    return rng.choice(FILINGS) + b" " + b"./" * 127 + b"./"[:1] + rng.choice((b"n", b"1"))
 
 
 def filled(length):
@@ -223,11 +268,11 @@ UNCLEAR = {
     "301 bytes": filled(301),
     "exactly 300 bytes": filled(300),
     "a control byte": lambda rng, line: put_in(rng, line, bytes([rng.choice(CONTROLS)])),
-    "a control byte in a path": lambda rng, line: put_in(rng, rng.choice((b"model ", b"delivery ")) + b"1", bytes([rng.choice(CONTROLS)])),
+    "a control byte in a path": lambda rng, line: put_in(rng, rng.choice(FILINGS) + b" 1", bytes([rng.choice(CONTROLS)])),
     "a tab for a space": lambda rng, line: line.replace(b" ", b"\t") if b" " in line else b"upper\t0 0 0",
     "a carriage return": lambda rng, line: line + b"\r",
     "a NUL": lambda rng, line: line + b"\0",
-    "byte 127": lambda rng, line: put_in(rng, rng.choice((line, b"model 1", b"delivery 1")), b"\x7f"),
+    "byte 127": lambda rng, line: put_in(rng, rng.choice((line, b"model 1", b"counter 1", b"delivery 1")), b"\x7f"),
     "a byte from 128 on": high_byte,
     "two spaces": double_space,
     "a space before": lambda rng, line: b" " + line,
@@ -238,9 +283,10 @@ UNCLEAR = {
     "upper case": upper_case,
     "too few words": too_few_words,
     "too many words": lambda rng, line: line + b" 0" * rng.randint(1, 3),
-    "no path": lambda rng, line: rng.choice((b"model ", b"delivery ")),
+    "no path": lambda rng, line: rng.choice(FILINGS) + b" ",
     "a path of 256 bytes": path_too_long,
-    "another word": lambda rng, line: rng.choice((b"value 3", b"known", b"uppers 0 0 0", b"uppe 0 0 0", b"help", b"quit", b"cleared", b"clea", b"0", b"models 1", b"withi 0 0 0 0")),
+    "another word": lambda rng, line: rng.choice((b"value 3", b"known", b"uppers 0 0 0", b"uppe 0 0 0", b"help", b"quit", b"cleared", b"clea", b"0", b"models 1", b"withi 0 0 0 0", b"counters 1",
+                                                 b"counte 1", b"count 1")),
     "a space before #": lambda rng, line: b" # " + line,
 }
 SILENT = {
@@ -254,10 +300,16 @@ SILENT = {
 
 # Scripts.
 
+def for_other_calls(folder, word):
+    """The files that another call would take, but this one hardly does."""
+    return [name for other, name in folder.themes if other != word] or list(folder.files)
+
+
 def opening(rng, folder, theme):
-    """What follows a clearing: now and then models that are refused, then mostly the theme's model, and a delivery for it."""
-    refused = [b"model " + rng.choice(folder.others) for _ in range(rng.choice((0, 0, 0, 1, 2)))]
-    filed = [b"model " + theme, b"delivery " + rng.choice(folder.certificates.get(theme, folder.deliveries[theme]))]
+    """What follows a clearing: now and then models or counter files that are refused, then mostly the theme, and a delivery for it."""
+    words = [rng.choice((b"model", theme[0], theme[0])) for _ in range(rng.choice((0, 0, 0, 1, 2) if theme[0] == b"model" else (0, 1, 2, 3, 4)))]
+    refused = [word + b" " + rng.choice(folder.others[word] if rng.randrange(5) else for_other_calls(folder, word)) for word in words]
+    filed = [b" ".join(theme), b"delivery " + rng.choice(folder.certificates.get(theme, folder.deliveries[theme]))]
     return refused + filed[:rng.choice((0, 1, 1, 2, 2))]
 
 
@@ -267,9 +319,15 @@ def asked_again(rng, lines):
     return rng.sample(asked, min(len(asked), rng.choice((0, 2, 4))))
 
 
+def chosen_theme(rng, folder):
+    """A model or, every third time, a counter file."""
+    word = rng.choice((b"model", b"model", b"counter"))
+    return rng.choice([theme for theme in folder.themes if theme[0] == word] or folder.themes)
+
+
 def make_script(rng, folder):
     """(a script's bytes, the kinds of its lines that are no call, by the line's number)."""
-    theme, kinds, due = rng.choice(folder.models), {}, rng.randint(*LINES)
+    theme, kinds, due = chosen_theme(rng, folder), {}, rng.randint(*LINES)
     lines = opening(rng, folder, theme)
     while len(lines) < due:
         line, lot = call(rng, folder, theme), rng.randrange(100)
@@ -278,17 +336,26 @@ def make_script(rng, folder):
             line, kinds[len(lines)] = spoil(rng, line), kind
         lines.append(line)
         if line == b"clear":
-            theme = rng.choice(folder.models)
+            theme = chosen_theme(rng, folder)
             lines += opening(rng, folder, theme) + asked_again(rng, lines)
     return b"\n".join(lines[:due]) + b"\n" * (rng.randrange(4) > 0), kinds
 
 
+def every_counter(folder):
+    """A script that files every counter file of a folder into an empty register, and asks for a chance of the accepted ones."""
+    refused = [b"counter " + name for name in folder.others[b"counter"]]
+    accepted = [b" ".join(theme) + b"\nwithin 3 0 0 0\nlive 1 0 1\nclear" for theme in folder.themes if theme[0] == b"counter"]
+    return b"\n".join(refused + accepted + refused)
+
+
 def folders_of_scripts(seed, count):
-    """`count` scripts as (folder, its scripts with their kinds), folder after folder."""
+    """`count` scripts as (folder, its scripts with their kinds), folder after folder. The first files every counter file of the edges."""
     rng, made = random.Random(seed), 0
     while made < count:
         folder = make_folder(rng, made // SCRIPTS_OF_A_FOLDER)
         scripts = [make_script(rng, folder) for _ in range(min(SCRIPTS_OF_A_FOLDER, count - made))]
+        if made == 0:
+            scripts[0] = every_counter(folder), {}
         made += len(scripts)
         yield folder, scripts
 
@@ -342,6 +409,25 @@ def short_kinds(line, reply):
     return ["within: " + number] + ["within: %s before 45" % number] * (has_many_steps and number != "45")
 
 
+def counter_kinds(answered):
+    """The kinds of replies that counter files bring: to their calls, and to calls while the model that one makes is held."""
+    held = None
+    for line, reply in answered:
+        word, (answer, number, place) = line.split(b" ")[0].decode("latin-1"), ((reply or "none") + " 0 0").split()[:3]
+        if answer == "refused" and word == "counter" and number in ("47", "48"):
+            yield "counter: %s %s" % (number, "at 0" if place == "0" else "further on")
+        elif answer == "refused" and word in ("model", "counter"):
+            yield "%s: %s" % (word, number) + (" beside a %s" % held if held else "")
+        elif held == "counter" and answer in ("known", "new", "value"):
+            yield "beside a counter: " + answer
+        elif held == "counter" and answer == "refused":
+            yield "beside a counter: " + number
+        if answer == "accepted":
+            held = word
+            yield word + ": accepted"
+        held = None if answer == "cleared" else held
+
+
 def count_kinds(kinds, answered, line_kinds):
     """Counts replies and reasons, and lines that are no call, which the pair must have found to be none."""
     for _, reply in answered:
@@ -350,6 +436,7 @@ def count_kinds(kinds, answered, line_kinds):
         if word == "refused":
             kinds[int(number)] += 1
     kinds.update(kind for line, reply in answered for kind in short_kinds(line, reply))
+    kinds.update(counter_kinds(answered))
     for at, kind in line_kinds.items():
         if at < len(answered) and answered[at][1] != ("unclear" if kind in UNCLEAR else None):
             sys.exit("the plain pair replies %r to %r, which has %s" % (*reversed(answered[at]), kind))
@@ -373,7 +460,7 @@ def compare_folder(program, number, folder, scripts, kinds):
 
 def show_kinds(kinds, count):
     """Prints how often each kind occurred; exits when one is too rare, if there were enough scripts for it."""
-    due = [*REASONS, *REPLIES, *FILED, *SHORT, *UNCLEAR, *SILENT]
+    due = [*REASONS, *REPLIES, *FILED, *SHORT, *COUNTERS, *UNCLEAR, *SILENT]
     print("; ".join("%s: %d" % (kind, kinds[kind]) for kind in due))
     rare = [kind for kind in due if kinds[kind] < FEWEST]
     if count < ENOUGH:
@@ -425,8 +512,9 @@ def compare_short(program, seed):
     folder, kinds, wrong = Folder((model, b"") for model in short_models(random.Random(seed))), Counter(), 0
     with tempfile.TemporaryDirectory(dir=SHARED_MEMORY if SHARED_MEMORY.is_dir() else None) as root:
         folder.write(os.fsencode(root))
-        for name in folder.models:
-            table, model, script = folder.table(name), folder.files[name], all_short(folder.table(name), name)
+        for name in folder.models():
+            table, model = folder.table((b"model", name)), folder.files[name]
+            script = all_short(table, name)
             answered, warnings, _ = expected(folder, script)
             kinds.update(kind for line, reply in answered for kind in short_kinds(line, reply))
             kinds["pairs"] += through_pairs(table, model)
@@ -436,7 +524,7 @@ def compare_short(program, seed):
                 return wrong
     above, zero, refused = (kinds["within: " + kind] for kind in ("value above 0", "value 0", "45"))
     print("desk: %d short chances of %d models compared, %d of them above 0, %d with a part through a pair; %d refused by 45"
-          % (above + zero, len(folder.models), above, kinds["pairs"], refused))
+          % (above + zero, len(folder.models()), above, kinds["pairs"], refused))
     if min(above, kinds["pairs"], refused) < FEWEST_SHORT:
         sys.exit("fewer than %d short chances of a kind" % FEWEST_SHORT)
     return wrong

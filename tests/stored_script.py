@@ -7,6 +7,7 @@ import posixpath
 import sys
 from pathlib import Path
 
+import checker
 import generate
 import plainpair
 import scripts
@@ -38,6 +39,27 @@ def model_files():
         "13.tab": rules((0, 0, 0, 0, 0, 0, 65537)), "14.tab": w[:10] + w, "15.tab": rules((0, 0, 1, 0, 0, 0, 65536)),
         "longer.tab": large + large[-10:], "empty": b"", "sub/w.tab": w, "pairs.tab": pairs(),
     }
+
+
+def counter_files():
+    """Accepted ones, and refused ones by the number, what is wrong and where."""
+    def moves(*records):
+        return generate.counter_file(records)
+    queue, most, ladder = generate.QUEUE, generate.largest_counter(), [(u, u, 0, 65536) for u in range(8)]
+    accepted = {"queue.ctr": queue, "one.ctr": moves((0, 0, 0, 65536)), "192.ctr": most, "eight.ctr": moves(*ladder), "uvd.ctr": moves((0, 1, 0, 65536), (1, 0, 0, 65536))}
+    wrong = {
+        "46-cut.ctr": queue[:-1], "46-longer.ctr": queue + b"\0", "46-half.ctr": queue[:-4], "46-193.ctr": most + most[-8:], "46-byte.ctr": most + b"\0", "46-twice.ctr": most * 2,
+        "47-u.ctr": moves((8, 0, 0, 65536)), "47-v.ctr": moves((0, 0, 0, 32768), (0, 8, 0, 32768)), "47-d.ctr": moves((0, 0, 0, 32768), (0, 0, 2, 1), (0, 0, 3, 32767)),
+        "47-fourth.ctr": queue[:3] + b"\1" + queue[4:], "47-none.ctr": moves((0, 0, 0, 65536), (0, 0, 1, 0)), "47-much.ctr": moves((0, 0, 0, 65537)), "47-byte.ctr": moves((0, 0, 0, 2**24)),
+        "47-equal.ctr": queue[:8] + queue, "47-falls.ctr": queue[8:16] + queue[:8] + queue[16:], "47-vud.ctr": moves((0, 0, 0, 32768), (1, 0, 0, 65536), (0, 1, 0, 32768)),
+        "47-last.ctr": moves(*ladder[:7], (7, 7, 0, 0)), "47-and-48.ctr": moves((0, 0, 0, 1), (0, 0, 3, 1)),
+        "48-less.ctr": moves((0, 0, 0, 65535)), "48-more.ctr": moves((0, 0, 0, 65536), (0, 0, 1, 1)), "48-v.ctr": moves((0, 1, 0, 65536)), "48-gap.ctr": moves((0, 0, 0, 65536), (2, 2, 0, 65536)),
+        "48-first.ctr": moves((1, 1, 0, 65536)), "48-last.ctr": moves(*ladder[:7], (7, 7, 0, 1)),
+    }
+    made = checker.made_model(queue)
+    others = {"queue.tab": made, "queue.cer": generate.queue_delivery(), "queue-ul.cer": generate.queue_delivery(mean=None),
+              "queue-24.cer": generate.queue_delivery(upper=[688128, 311296, 172032, 811008])}
+    return {**accepted, **wrong, **others}
 
 
 def delivery_files():
@@ -86,6 +108,29 @@ def short_chances_of_pairs():
     yield from ("# The short chances of a model with pairs, all entries; 40 before 44 and 45.", "clear", "within 3 0 0 0", "within 4 0 0 0", "within 4 9 9 9", "model pairs.tab")
     yield from ("within %d %d %d %d" % (n, p, z, q) for n in STEPS for p in range(3) for z in range(2) for q in range(3))
     yield from ("within 3 3 0 0", "within 3 0 2 0", "within 3 0 0 3", "within 4 3 0 0", "within 4 0 2 0", "within 4 0 0 3", "upper 0 0 0")
+
+
+def counters():
+    yield "# Counter files that are refused leave the register empty; so do those that are missing, empty, a folder or too long, and a model."
+    yield from ("clear", *("counter %s" % name for name in counter_files() if name[0] == "4"), "counter gone", "counter empty", "counter sub", "counter .", "counter large.tab", "counter w.tab")
+    yield from ("model queue.ctr", "counter queue.tab", "live 0 0 0", "delivery queue.cer")
+    yield from ("# The queue: its model is held, so that any further model or counter file is 41, whatever the file.", "counter queue.ctr", "counter queue.ctr", "counter 46-cut.ctr", "counter gone")
+    yield from ("model queue.tab", "model gone", *QUESTIONS)
+    yield from ("within %d %d 0 %d" % (n, u, v) for n in STEPS for u in range(2) for v in range(2))
+    yield from ("live 0 0 0", "live 1 0 0", "live 2 0 0", "live 0 1 0", "live 0 0 2", "within 3 0 1 0", "within 3 2 0 0", "delivery w.cer", "delivery queue-24.cer", "upper 0 0 0")
+    yield from ("delivery queue.cer", *("%s %d 0 %d" % (name, u, v) for name in ("lower", "upper") for u in range(2) for v in range(2)), "steps 0 0", "steps 1 0", "margin")
+    yield from ("delivery queue-24.cer", "margin", "delivery queue-ul.cer", "steps 0 0", "margin", "delivery queue.cer", "counter queue.ctr", "margin")
+
+
+def counters_as_models():
+    yield "# The model that the queue makes, filed as a model, gets the same replies."
+    yield from ("clear", "model queue.tab", "counter queue.ctr", *("within 3 %d 0 %d" % (u, v) for u in range(2) for v in range(2)), "delivery queue.cer", "margin", "upper 1 0 0")
+    yield "# Other counter files: one state, eight states, states that are not in order of v, and all 192 moves."
+    for name in ("one", "eight", "uvd", "192"):
+        yield from ("clear", "counter %s.ctr" % name, *QUESTIONS, "within 2 0 0 1", "within 3 1 0 0", "live 7 0 7", "live 8 0 0", "within 3 7 0 0")
+    yield from ("clear", "margin", "model w.tab", "delivery w.cer", "counter queue.ctr", "margin", "clear", "counter", "counter ", "counter queue.ctr ", "counter  queue.ctr", " counter queue.ctr")
+    yield from ("Counter queue.ctr", "counters queue.ctr", "counte queue.ctr", "counterqueue.ctr", "counter queue.ctr queue.ctr", "counter " + "n" * 255, "counter " + "n" * 256)
+    yield from ("counter 表.ctr", b"counter \x80\xff", b"counter queue\0.ctr", b"counter queue.ctr\r", "counter #gone", "counter ./" + "./" * 120 + "queue.ctr", "within 3 0 0 0", "clear")
 
 
 def refused_deliveries():
@@ -170,8 +215,8 @@ def one_state():
     yield from ("delivery one-ur.cer", *QUESTIONS, "upper 1 0 0", "live 0 0 1", "steps 0 1", "delivery one-ul.cer", "clear", "model one.tab", "live 0 0 0")
 
 
-GROUPS = (empty_register, refused_models, model_alone, short_chances, refused_deliveries, all_of_w, marks_and_shapes, clearing, numbers, paths, unclear_words, unclear_bytes,
-          lengths, short_chances_of_pairs, largest, one_state)
+GROUPS = (empty_register, refused_models, counters, counters_as_models, model_alone, short_chances, refused_deliveries, all_of_w, marks_and_shapes, clearing, numbers, paths,
+          unclear_words, unclear_bytes, lengths, short_chances_of_pairs, largest, one_state)
 
 
 def script():
@@ -197,7 +242,7 @@ def check_complete(replies):
 
 def made_files():
     """Path under crates/desk/ -> bytes."""
-    files, text = {**model_files(), **delivery_files()}, script()
+    files, text = {**model_files(), **counter_files(), **delivery_files()}, script()
     desk = desk_over(files)
     replies = [desk.reply_to_line(line) for line in desk.lines_of(text)]
     check_complete(replies)

@@ -5,6 +5,7 @@ import struct
 import sys
 
 import checker
+import counters
 import plainpair
 import scripts
 import soundness
@@ -224,19 +225,147 @@ def pair_of_request(self, n, rule, q):
 
 
 def by_pairs(pair):
-    """A desk by the request's method: the chance of one symbol from that of a stacked pair, over the row's rules."""
-    def chance(self, n, p, z, q):
+    """A desk by the request's method: the chance of one symbol from that of a stacked pair, over the row's rules. Each is found once for a model."""
+    found = {}
+
+    def worked_out(self, n, p, z, q):
         def through(rule):
             if rule.length == 0:
                 return CERTAIN ** (n - 1) if rule.q == q else 0
             return pair(self, n - 1, rule, q) if rule.length == 2 else self.chance(n - 1, rule.q, rule.y, q)
         return sum(rule.weight * through(rule) for rule in self.table().rules[p, z]) if n else 0
+
+    def chance(self, n, p, z, q):
+        asked = (self.model, n, p, z, q)
+        if asked not in found:
+            found[asked] = worked_out(self, n, p, z, q)
+        return found[asked]
     return wrong(chance=chance)
 
 
 def remembered(self, n, p, z, q):
     """The chance that was found when the entry was first asked for, of whatever model."""
     return self.__dict__.setdefault("found", {}).setdefault((n, p, z, q), Desk.chance(self, n, p, z, q))
+
+
+# Counter files (request A.2).
+
+def counter_read_first(self, path):
+    self.judge_counter(self.read(path, plainpair.COUNTER_READ))
+    return Desk.file_counter(self, path)
+
+
+def counter_over_a_held_one(self, path):
+    counter = self.read(path, plainpair.COUNTER_READ)
+    self.judge_counter(counter)
+    self.model, self.delivery = self.made_of(counter), None
+    return "accepted"
+
+
+def counter_again_clears(self, path):
+    if self.model is not None:
+        self.clear()
+        raise Refused(plainpair.MODEL_HELD)
+    return Desk.file_counter(self, path)
+
+
+def same_counter_again(self, path):
+    """Takes the counter file whose model is held once more."""
+    if self.model is not None and self.model == self.made_of(self.read(path, plainpair.COUNTER_READ)[:1536]):
+        return "accepted"
+    return Desk.file_counter(self, path)
+
+
+def counter_not_held(self, path):
+    before = self.model
+    reply = Desk.file_counter(self, path)
+    self.model = before
+    return reply
+
+
+def kept_from_before(self, path):
+    """Holds the model that the first counter file made."""
+    reply = Desk.file_counter(self, path)
+    self.model = self.__dict__.setdefault("first", self.model)
+    return reply
+
+
+def refused_is_held(self, path):
+    """Holds what a counter file makes although a state's sum is wrong."""
+    counter = self.read(path, plainpair.COUNTER_READ)
+    if self.model is None and checker.check_counter(counter)[0] == checker.STATE_SUM:
+        self.model = self.made_of(counter)
+    return Desk.file_counter(self, path)
+
+
+def by_either(first, second):
+    """A filing that takes a file for the other call too, where this one refuses it."""
+    def filing(self, path):
+        try:
+            return first(self, path)
+        except Refused:
+            if self.model is not None:
+                raise
+        try:
+            return second(self, path)
+        except Refused:
+            return first(self, path)
+    return filing
+
+
+def judged_by(name):
+    """The judgement of a wrong checker of tests/counters.py."""
+    def judge_counter(self, counter):
+        with counters.replaced(counters.WRONG_CHECKS[name]):
+            Desk.judge_counter(self, counter)
+    return wrong(judge_counter=judge_counter)
+
+
+def made_by(name):
+    """The model that a wrong one of tests/counters.py makes."""
+    def made_of(self, counter):
+        with counters.replaced(counters.WRONG_SIDES[name]):
+            return Desk.made_of(self, counter)
+    return wrong(made_of=made_of)
+
+
+def filed_as_its_model(self, path):
+    """By way of the model file that it makes, which is judged as any other."""
+    if self.model is not None:
+        raise Refused(plainpair.MODEL_HELD)
+    counter = self.read(path, plainpair.COUNTER_READ)
+    self.judge_counter(counter)
+    model = b"".join(bytes([u, 0, v, d, 0, 0, *weight]) for u, v, d, _, *weight in (counter[at:at + 8] for at in range(0, len(counter), 8)))
+    self.judge_model(model)
+    self.hold_model(model)
+    return "accepted"
+
+
+CHECKS = ("46 above 1,535 bytes", "no bytes pass", "a part of a record left out", "u 8 passes", "v 8 passes", "d 3 passes", "the fourth byte ignored", "weight 0 passes",
+          "weight 65,537 passes", "weights without their fourth byte", "order by (v, u, d)", "equal records pass", "48 before 47", "states counted from u only",
+          "states counted from v only", "a state that is not named left out", "the last state not summed", "sums up to 65,536 pass", "48 at the last such state",
+          "48 at the state's first record")
+MADE = ("up pushes one symbol", "down and up exchanged", "level pushes nothing", "u and v exchanged", "symbol 1 for symbol 0", "weights of two bytes")
+WRONG_COUNTERS = {
+    **{"a counter file: " + name: judged_by(name) for name in CHECKS},
+    **{"a counter file's model: " + name: made_by("the model: " + name) for name in MADE},
+    "a counter file read before 41": wrong(file_counter=counter_read_first),
+    "a counter file accepted over a held model": wrong(file_counter=counter_over_a_held_one),
+    "41 clears, for a counter file": wrong(file_counter=counter_again_clears),
+    "the held counter file accepted again": wrong(file_counter=same_counter_again),
+    "a counter file not held while reporting success": wrong(file_counter=counter_not_held),
+    "the first counter file's model held for any later one": wrong(file_counter=kept_from_before),
+    "a counter file of a wrong sum held while it is refused": wrong(file_counter=refused_is_held),
+    "a counter file judged and held as a model": wrong(file_counter=Desk.file_model),
+    "a model taken for a counter file": wrong(file_model=Desk.file_counter),
+    "a model taken by the call for counter files too": wrong(file_counter=by_either(Desk.file_counter, Desk.file_model)),
+    "a counter file taken by the call for models too": wrong(file_model=by_either(Desk.file_model, Desk.file_counter)),
+    "a counter file replied to as a delivery": wrong(file_counter=lambda self, path: Desk.file_counter(self, path) and "new"),
+    "a byte less read of counter files": wrong(read=lambda self, path, most: self.files(path, most - (most == plainpair.COUNTER_READ))),
+    "42 while a counter file's model is held, for short chances": wrong(
+        file_counter=lambda self, path: setattr(self, "counts", Desk.file_counter(self, path)) or "accepted", clear=lambda self: setattr(self, "counts", None) or Desk.clear(self),
+        within=lambda self, *asked: within_needs_delivery(self, *asked) if self.__dict__.get("counts") else Desk.within(self, *asked)),
+}
 
 
 def read_one_byte_less(self, path, most):
@@ -364,6 +493,7 @@ WRONG = {
     "a pair without the middle state, from the exit": by_pairs(lambda self, n, rule, q: pair_by_single(self, n, rule.q, rule.y, rule.x, q, [q])),
     "a pair with one step too many": by_pairs(lambda self, n, rule, q: pair_of_request(self, n + 1, rule, q) // CERTAIN),
     "a pair's symbols exchanged": by_pairs(lambda self, n, rule, q: pair_of_request(self, n, rule._replace(y=rule.x, x=rule.y), q)),
+    **WRONG_COUNTERS,
     "the shortfall left out": wrong(reply_to=refusal_cut(shortfall="0")),
     "the place left out": wrong(reply_to=refusal_cut(place="0")),
     "a byte less read of files": wrong(read=read_one_byte_less),
@@ -398,7 +528,7 @@ WRONG = {
     "byte 127 taken": well_written(lambda byte: byte >= 32),
     "a line of 264 bytes refused": wrong(is_written_well=lambda self, line: Desk.is_written_well(self, line) and len(line) < 264),
 }
-RIGHT = {"short chances by the request's method": by_pairs(pair_of_request)}  # which no script may notice
+RIGHT = {"short chances by the request's method": by_pairs(pair_of_request), "counter files by way of their model": wrong(file_counter=filed_as_its_model)}  # which no script may notice
 
 
 def is_noticed(kind, folder, script, right):
