@@ -103,6 +103,7 @@ TABLE = [
     Row("does not list 45 for short runs", "history/too_many_steps_not_listed", ("listed (within n p z q) = 40 ∷ (44 ∷ (45 ∷ []))",)),
 
     Row("a move up pushes one symbol, by definition", "onecounter/up_pushes_one_symbol", ("pushFor up = let pushed = two 0 0 in pushed",)),
+    # So does this one with the number that is stored: `shift(file, i) / 1` is refused too.
     Row("a record pushes half of d symbols", "counter/half_of_d_pushed", ("    out[at + PUSHES_BYTE] = (shift(file, i)) as u8;",)),
     Row("down and up are exchanged, by definition", "onecounter/down_and_up_exchanged",
         ("shifted down n = let c = n in c", "shifted up n = let c = n in suc (suc c)", "pushFor down = let pushed = nothing in pushed", "pushFor up = let pushed = two 0 0 in pushed")),
@@ -122,6 +123,7 @@ TABLE = [
          "        FIRST",
          "        passed-each (statesIn c) (stateTests c) .1 (λ u l. sum-exactly c u .1 (state-sum-is c u ∙ file .machine .state-sum u l)),",
          "        passed-each (movesIn c) (moveTests c) .1 (λ i l. move-exactly c i .1 (m .right i l, ascends-of-file c m i l)),")),
+    # This twin leaves the test of the byte as it is: `0 == zero`, of the same meaning, is refused in the same words, so that the edit shows less than the others.
     Row("the fourth byte is not tested", "counter/fourth_byte_not_tested", ("    let rest = (zero == 0) & ((0 < k) & (k <= 65536));",)),
     Row("the made model has its states exchanged, by definition", "onecounter/states_of_a_move_exchanged",
         ("ruleFor e = (let u = e .from in rule u 0 (e .to) (pushFor (e .shift)) (e .weight))",)),
@@ -146,6 +148,7 @@ TABLE = [
          "    passage-mean-of-file c (at .file) u r (subst (λ m. MeanHolds (rulesOf m) u 0 r) (one-model held (at .held)) holds) n")),
     Row("promises a short passage in another state", "history/passage_short_promised_of_another_state",
         ("(let e = v in x ≡ firstPassage (movesOf c) n u e)",)),
+    # The refusal is a missing field, and a harmless field more is refused likewise; the twin adds none.
     Row("promises what is shown of counter files that nobody can hold", "history/holds_counter_that_nobody_has",
         ("-- After an accepted counter file the model that it makes is held, and that is a model file.", "→ (HoldsCounter (fileCounter c ∷ cs) c) × ModelFile (counterModel c)",
          "    ((record { file = file; held = rw e }), made-right c file)")),
