@@ -1,48 +1,10 @@
--- The table of exchanges holds, computed on the plain pair; so a register replies as the table has it.
-use mathlib.Core.List.{List, [], _∷_, map, flatMap}
+-- A register replies as the tables of exchanges have it, since the plain pair does.
+use mathlib.Core.List.{List, [], _∷_, map}
 use mathlib.Core.Path.{_≡_, refl, ap, _∙_}
-use Rattle.walks.specs.Lists.{listTo, each, lists}
-use Rattle.outcome.specs.Tests.{first}
-use Rattle.words.specs.Words.{wordAt}
-use Rattle.walks.specs.Sums.{sign, sum, sumTo, leastTo, allTo, greatestTo}
-use Rattle.ppda.specs.Rules.{fits, overRow}
-use Rattle.ppda.specs.Runs.{after, weigh, overRuns, overRunsWithin}
-use Rattle.ppda.specs.Chances.{chanceFrom}
-use Rattle.ppda.specs.Equations.{f, meanSide}
-use Rattle.ppda.specs.Live.{mark, isLive, alive}
-use Rattle.ppda.specs.Margin.{share, shareAt, margin}
-use Rattle.model.specs.Records.{recordsOf, field, weight, statesOf, symbolsOf}
-use Rattle.model.specs.Rules.{ruleOf, rulesOf, rowOf, rowSum}
-use Rattle.wellformed.specs.Verdict.{wholeRecords, rangeAt, unusedAt, weightAt, ascends, recordTests, rowTests, rowsTests, modelTests, modelVerdict}
-use Rattle.delivery.specs.Records.{byteOf, valueAt}
-use Rattle.delivery.specs.Shapes.{meansFrom, recordsIn, longAs, lowersOrMeans, shapeOf}
-use Rattle.delivery.specs.Numbers.{uppersOf, lowersOf, meansOf}
-use Rattle.layout.specs.Layout as layout
-use Rattle.delivery.specs.Records.{isDue, inRange}
-use Rattle.layout.specs.Layout.{upperRecords, lowerRecords, meanRecords, layoutTests}
-use Rattle.walks.specs.Order.{eachEntry, eachRow}
-use Rattle.inequalities.specs.Inequalities.{deadTest, upperTest, belowTest, lowerTest, meanTest, deadTests, upperTests, belowTests, lowerTests, meanTests}
-use Rattle.verdict.specs.Marks.{liveMark}
-use Rattle.verdict.specs.Verdict as verdict
-use Rattle.verdict.specs.Verdict.{numberTests, shapedTests, deliveryTests}
-use Rattle.certificate.specs.Margin.{marginOf}
-use Rattle.model.specs.Made.{madeModel}
-use Rattle.onecounter.specs.Pushing.{rulesFor}
-use Rattle.counter.specs.Records.{movesIn, byteIn, weightIn, statesIn}
-use Rattle.counter.specs.Moves.{moveOf, movesOf}
-use Rattle.counter.specs.Verdict.{wholeMoves, moveInRange, moveAscends, moveTests, stateSum, stateTests, counterTests, counterVerdict}
-use Rattle.counter.specs.Made.{counterModel}
-use Rattle.history.specs.Plain.{Event, lastModel, lastDelivery, sameUppers, plainReply, plainReplies}
-use Rattle.history.specs.Edges.{callOf, replyDue, AllReplied, Replied, emptyExchanges, modelExchanges, upperExchanges, lowerExchanges, meanExchanges, allExchanges, wideExchanges, shortExchanges, counterExchanges}
+use Rattle.history.specs.Plain.{Event, plainReplies}
 use Rattle.history.proofs.Replies.{replies-as-plain}
-
--- ---- computed
-
-computed : AllReplied [] emptyExchanges × AllReplied [] modelExchanges × AllReplied [] upperExchanges × AllReplied [] lowerExchanges × AllReplied [] meanExchanges × AllReplied [] allExchanges × AllReplied [] wideExchanges × AllReplied [] shortExchanges × AllReplied [] counterExchanges
-unfolding chanceFrom overRunsWithin overRuns lists flatMap after weigh first each wordAt sign sum sumTo leastTo fits overRow f meanSide mark isLive alive share shareAt margin recordsOf field weight greatestTo statesOf symbolsOf ruleOf listTo rulesOf rowOf rowSum wholeRecords rangeAt unusedAt weightAt ascends recordTests rowTests rowsTests modelTests modelVerdict byteOf valueAt meansFrom recordsIn longAs lowersOrMeans shapeOf uppersOf lowersOf meansOf eachEntry eachRow isDue inRange layout.recordTests deadTest upperTest belowTest lowerTest meanTest upperRecords lowerRecords meanRecords deadTests upperTests belowTests lowerTests meanTests layoutTests numberTests shapedTests deliveryTests verdict.verdict marginOf liveMark allTo lastModel lastDelivery sameUppers plainReply wholeMoves moveInRange moveAscends moveTests stateSum stateTests counterTests counterVerdict movesIn byteIn weightIn statesIn moveOf movesOf rulesFor madeModel counterModel
-computed = ((refl, (refl, (refl, (refl, (refl, (refl, (refl, (refl, (refl, (refl, (refl, tt))))))))))), (refl, (refl, (refl, (refl, (refl, (refl, (refl, (refl, (refl, (refl, (refl, (refl, (refl, tt))))))))))))), (refl, (refl, (refl, (refl, (refl, (refl, (refl, (refl, (refl, (refl, (refl, (refl, (refl, (refl, (refl, (refl, (refl, (refl, tt)))))))))))))))))), (refl, (refl, (refl, (refl, (refl, (refl, tt)))))), (refl, (refl, (refl, (refl, (refl, (refl, (refl, tt))))))), (refl, (refl, (refl, (refl, (refl, (refl, (refl, (refl, (refl, (refl, (refl, (refl, (refl, (refl, (refl, (refl, tt)))))))))))))))), (refl, (refl, (refl, (refl, (refl, (refl, (refl, (refl, (refl, (refl, (refl, (refl, tt)))))))))))), (refl, (refl, (refl, (refl, (refl, (refl, (refl, (refl, (refl, (refl, (refl, (refl, (refl, (refl, (refl, (refl, (refl, (refl, (refl, (refl, (refl, (refl, (refl, (refl, (refl, (refl, (refl, (refl, (refl, (refl, (refl, (refl, (refl, (refl, tt)))))))))))))))))))))))))))))))))), (refl, (refl, (refl, (refl, (refl, (refl, (refl, (refl, (refl, (refl, (refl, (refl, (refl, (refl, (refl, (refl, (refl, (refl, (refl, (refl, (refl, (refl, (refl, tt))))))))))))))))))))))))
-
--- ---- so does a register
+use Rattle.history.specs.Edges.{callOf, replyDue, AllReplied, Replied, AllTables, exchanges, modelExchanges}
+use Rattle.history.proofs.Computed.{computed}
 
 as-due : (past es : List Event) → AllReplied past es → plainReplies past (map callOf es) ≡ map replyDue es
 unfolding plainReplies
@@ -52,15 +14,13 @@ as-due past (e ∷ es) all = rw (all .0) (ap (λ rs. e .reply ∷ rs) (as-due (e
 replied : (es : List Event) → AllReplied [] es → Replied es
 replied es all = replies-as-plain (map callOf es) ∙ as-due [] es all
 
-pub exchanges-replied : Replied emptyExchanges × Replied modelExchanges × Replied upperExchanges × Replied lowerExchanges × Replied meanExchanges × Replied allExchanges × Replied wideExchanges × Replied shortExchanges × Replied counterExchanges
-exchanges-replied = (
-  replied emptyExchanges (computed .0),
-  replied modelExchanges (computed .1),
-  replied upperExchanges (computed .2),
-  replied lowerExchanges (computed .3),
-  replied meanExchanges (computed .4),
-  replied allExchanges (computed .5),
-  replied wideExchanges (computed .6),
-  replied shortExchanges (computed .7),
-  replied counterExchanges (computed .8),
-)
+tables-replied : (ts : List (List Event)) → AllTables (AllReplied []) ts → AllTables Replied ts
+tables-replied [] all = tt
+tables-replied (t ∷ ts) all = (replied t (all .0), tables-replied ts (all .1))
+
+pub exchanges-replied : AllTables Replied exchanges
+exchanges-replied = tables-replied exchanges computed
+
+-- W is accepted by an empty register, and what follows while no delivery is held.
+pub model-replied : Replied modelExchanges
+model-replied = exchanges-replied .1 .0

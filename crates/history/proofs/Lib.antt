@@ -1,4 +1,5 @@
 -- The theorems of the mission for every sequence of calls.
+pub mod Computed
 pub mod Refusals
 pub mod Pairs
 pub mod Plain

@@ -32,6 +32,11 @@ AllReplied past (e ∷ es) = (plainReply (pairOf past) (e .call) ≡ e .reply) �
 abbrev pub Replied : List Event → Type 0
 Replied es = replies Filing.cleared (map callOf es) ≡ map replyDue es
 
+-- P holds of every table.
+abbrev pub AllTables : (List Event → Type 0) → List (List Event) → Type 0
+AllTables P [] = Unit {0}
+AllTables P (t ∷ ts) = P t × AllTables P ts
+
 -- Deliveries for W: the uppers alone, with the first and the last one open; with lowers; with mean steps.
 abbrev pub uppersFileWith : ℕ → ℕ → List ℕ
 uppersFileWith a u =
@@ -244,4 +249,18 @@ counterExchanges =
     ∷ due (fileModel wFile) accepted
     ∷ due (fileCounter queueFile) (refusal 41)
     ∷ due (live 1 0 0) (value 0)
+    ∷ []
+
+-- All tables.
+abbrev pub exchanges : List (List Event)
+exchanges =
+    emptyExchanges
+    ∷ modelExchanges
+    ∷ upperExchanges
+    ∷ lowerExchanges
+    ∷ meanExchanges
+    ∷ allExchanges
+    ∷ wideExchanges
+    ∷ shortExchanges
+    ∷ counterExchanges
     ∷ []

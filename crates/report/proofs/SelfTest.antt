@@ -18,7 +18,7 @@ use Rattle.register.specs.Filing.{cleared, fileModel}
 use Rattle.calls.specs.Calls as calls
 use Rattle.calls.specs.Answers.{modelReply}
 use Rattle.history.specs.Run.{replyOf, replies}
-use Rattle.history.proofs.Edges.{exchanges-replied}
+use Rattle.history.proofs.Edges.{model-replied}
 use Rattle.report.specs.SelfTest.{filings, testFiled, passed}
 
 not-refused : (o : Outcome) → modelReply o ≡ calls.accepted → isRefused o ≡ false
@@ -27,7 +27,7 @@ not-refused (Refused x i k) e = let z : _≡_ {A = ℕ} 0 1 = cc in absurd (omeg
 
 whole-accepted : isRefused (fileModel cleared wFile .outcome) ≡ false
 unfolding replyOf replies
-whole-accepted = not-refused (fileModel cleared wFile .outcome) (cc (exchanges-replied .1))
+whole-accepted = not-refused (fileModel cleared wFile .outcome) (cc model-replied)
 
 cut-refused : isRefused (fileModel cleared (take 39 wFile) .outcome) ≡ true
 unfolding first wholeRecords modelTests modelVerdict holdsModel noModel cleared modelOutcome fileModel

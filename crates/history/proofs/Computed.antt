@@ -1,0 +1,40 @@
+-- The tables of exchanges, computed on the plain pair.
+use mathlib.Core.List.{[], flatMap}
+use mathlib.Core.Path.{refl}
+use Rattle.walks.specs.Lists.{listTo, each, lists}
+use Rattle.outcome.specs.Tests.{first}
+use Rattle.words.specs.Words.{wordAt}
+use Rattle.walks.specs.Sums.{sign, sum, sumTo, leastTo, allTo, greatestTo}
+use Rattle.ppda.specs.Rules.{fits, overRow}
+use Rattle.ppda.specs.Runs.{after, weigh, overRuns, overRunsWithin}
+use Rattle.ppda.specs.Chances.{chanceFrom}
+use Rattle.ppda.specs.Equations.{f, meanSide}
+use Rattle.ppda.specs.Live.{mark, isLive, alive}
+use Rattle.ppda.specs.Margin.{share, shareAt, margin}
+use Rattle.model.specs.Records.{recordsOf, field, weight, statesOf, symbolsOf}
+use Rattle.model.specs.Rules.{ruleOf, rulesOf, rowOf, rowSum}
+use Rattle.wellformed.specs.Verdict.{wholeRecords, rangeAt, unusedAt, weightAt, ascends, recordTests, rowTests, rowsTests, modelTests, modelVerdict}
+use Rattle.delivery.specs.Records.{byteOf, valueAt}
+use Rattle.delivery.specs.Shapes.{meansFrom, recordsIn, longAs, lowersOrMeans, shapeOf}
+use Rattle.delivery.specs.Numbers.{uppersOf, lowersOf, meansOf}
+use Rattle.layout.specs.Layout as layout
+use Rattle.delivery.specs.Records.{isDue, inRange}
+use Rattle.layout.specs.Layout.{upperRecords, lowerRecords, meanRecords, layoutTests}
+use Rattle.walks.specs.Order.{eachEntry, eachRow}
+use Rattle.inequalities.specs.Inequalities.{deadTest, upperTest, belowTest, lowerTest, meanTest, deadTests, upperTests, belowTests, lowerTests, meanTests}
+use Rattle.verdict.specs.Marks.{liveMark}
+use Rattle.verdict.specs.Verdict as verdict
+use Rattle.verdict.specs.Verdict.{numberTests, shapedTests, deliveryTests}
+use Rattle.certificate.specs.Margin.{marginOf}
+use Rattle.model.specs.Made.{madeModel}
+use Rattle.onecounter.specs.Pushing.{rulesFor}
+use Rattle.counter.specs.Records.{movesIn, byteIn, weightIn, statesIn}
+use Rattle.counter.specs.Moves.{moveOf, movesOf}
+use Rattle.counter.specs.Verdict.{wholeMoves, moveInRange, moveAscends, moveTests, stateSum, stateTests, counterTests, counterVerdict}
+use Rattle.counter.specs.Made.{counterModel}
+use Rattle.history.specs.Plain.{lastModel, lastDelivery, sameUppers, plainReply}
+use Rattle.history.specs.Edges.{AllReplied, AllTables, exchanges}
+
+pub computed : AllTables (AllReplied []) exchanges
+unfolding chanceFrom overRunsWithin overRuns lists flatMap after weigh first each wordAt sign sum sumTo leastTo fits overRow f meanSide mark isLive alive share shareAt margin recordsOf field weight greatestTo statesOf symbolsOf ruleOf listTo rulesOf rowOf rowSum wholeRecords rangeAt unusedAt weightAt ascends recordTests rowTests rowsTests modelTests modelVerdict byteOf valueAt meansFrom recordsIn longAs lowersOrMeans shapeOf uppersOf lowersOf meansOf eachEntry eachRow isDue inRange layout.recordTests deadTest upperTest belowTest lowerTest meanTest upperRecords lowerRecords meanRecords deadTests upperTests belowTests lowerTests meanTests layoutTests numberTests shapedTests deliveryTests verdict.verdict marginOf liveMark allTo lastModel lastDelivery sameUppers plainReply wholeMoves moveInRange moveAscends moveTests stateSum stateTests counterTests counterVerdict movesIn byteIn weightIn statesIn moveOf movesOf rulesFor madeModel counterModel
+computed = ((refl, (refl, (refl, (refl, (refl, (refl, (refl, (refl, (refl, (refl, (refl, tt))))))))))), ((refl, (refl, (refl, (refl, (refl, (refl, (refl, (refl, (refl, (refl, (refl, (refl, (refl, tt))))))))))))), ((refl, (refl, (refl, (refl, (refl, (refl, (refl, (refl, (refl, (refl, (refl, (refl, (refl, (refl, (refl, (refl, (refl, (refl, tt)))))))))))))))))), ((refl, (refl, (refl, (refl, (refl, (refl, tt)))))), ((refl, (refl, (refl, (refl, (refl, (refl, (refl, tt))))))), ((refl, (refl, (refl, (refl, (refl, (refl, (refl, (refl, (refl, (refl, (refl, (refl, (refl, (refl, (refl, (refl, tt)))))))))))))))), ((refl, (refl, (refl, (refl, (refl, (refl, (refl, (refl, (refl, (refl, (refl, (refl, tt)))))))))))), ((refl, (refl, (refl, (refl, (refl, (refl, (refl, (refl, (refl, (refl, (refl, (refl, (refl, (refl, (refl, (refl, (refl, (refl, (refl, (refl, (refl, (refl, (refl, (refl, (refl, (refl, (refl, (refl, (refl, (refl, (refl, (refl, (refl, (refl, tt)))))))))))))))))))))))))))))))))), ((refl, (refl, (refl, (refl, (refl, (refl, (refl, (refl, (refl, (refl, (refl, (refl, (refl, (refl, (refl, (refl, (refl, (refl, (refl, (refl, (refl, (refl, (refl, tt))))))))))))))))))))))), tt)))))))))
