@@ -66,7 +66,7 @@ at-numbers {s} {g} P at e h =
     let (p, z, hp, hz, there) = row-split s g row hrow in
     rw (here, there) (at p z q hp hz hq)
 
-at-row-numbers : {s g : ℕ} (P : ℕ → Type 0) → AtRows s g (λ p z. P (rowAt g p z)) → (e : ℕ) → e < rowsIn s g → P e
+pub at-row-numbers : {s g : ℕ} (P : ℕ → Type 0) → AtRows s g (λ p z. P (rowAt g p z)) → (e : ℕ) → e < rowsIn s g → P e
 at-row-numbers {s} {g} P at e h = let (p, z, hp, hz, here) = row-split s g e h in rw here (at p z hp hz)
 
 module _ (s g : ℕ) (d : List ℕ) {h : Shape} (shape : shapeOf s g d ≡ Of h) where

@@ -20,7 +20,7 @@ use Rattle.delivery.specs.declared.shape.Shape.{Shape}
 use Rattle.delivery.specs.declared.shape.Shape.the-variants.{U, UL, UR, ULR}
 use Rattle.delivery.specs.declared.shape.Shaped.the-variants.{Of}
 use Rattle.delivery.specs.Format.{recordBytes, valueByte}
-use Rattle.delivery.specs.Records.{byteOf, kindAt, valueAt, kindOf, leastOf, mostOf, isDue, inRange}
+use Rattle.delivery.specs.Records.{byteOf, kindAt, stateAt, symbolAt, exitAt, valueAt, kindOf, leastOf, mostOf, isDue, inRange}
 use Rattle.delivery.specs.Shapes.{hasLowers, hasMeans, meansFrom, recordsIn, shapeOf}
 use Rattle.walks.specs.Order.{entriesIn, rowsIn, entryAt, rowAt, eachRow, eachEntry}
 use Rattle.delivery.specs.Numbers.{uppersOf, lowersOf, meansOf}
@@ -33,7 +33,7 @@ use Rattle.walks.proofs.Lists.{length-each, getD-each}
 
 module _ (w : ℕ) (h : ℕ → List ℕ) where
   -- Parts of a file that follow each other are one part of it.
-  parts-joined : (b : List ℕ) (from n : ℕ) → ((i : ℕ) → i < n → h i ≡ take w (drop (from + i * w) b))
+  pub parts-joined : (b : List ℕ) (from n : ℕ) → ((i : ℕ) → i < n → h i ≡ take w (drop (from + i * w) b))
       → each n h ≡ take (n * w) (drop from b)
   unfolding each
   parts-joined b from zero part = ap (λ k. take k (drop from b)) (sym (zero-mul w))
@@ -300,12 +300,11 @@ bytes-of-made s g h u l r hs hg =
 -- ---- making what was read
 
 module _ (d : List ℕ) (bytes : Bytes d) where
-  -- A record that is the one due, made again.
-  record-back : (i : ℕ) (k : Block) (p z q : ℕ) → recordBytes * i + recordBytes ≤ length d → isDue d i k p z q ≡ true
-      → deliveryRecord (kindOf k) p z q (valueAt d i) ≡ take recordBytes (drop (recordBytes * i) d)
+  -- A record, made again of its fields.
+  pub record-again : (i : ℕ) → recordBytes * i + recordBytes ≤ length d
+      → deliveryRecord (kindAt d i) (stateAt d i) (symbolAt d i) (exitAt d i) (valueAt d i) ≡ take recordBytes (drop (recordBytes * i) d)
   unfolding byteOf valueAt
-  record-back i k p z q room e =
-      let (kind, (state, (symbol, exit))) = due-exactly d i k p z q .0 e in
+  record-again i room =
       sym (
       ap (λ j. take recordBytes (drop j d)) (sym (add-zero (recordBytes * i)))
       ∙ rw (
@@ -313,16 +312,18 @@ module _ (d : List ℕ) (bytes : Bytes d) where
         step 1 6 (omega arith),
         step 2 5 (omega arith),
         step 3 4 (omega arith),
-        kind,
-        state,
-        symbol,
-        exit,
         made-word d (recordBytes * i + valueByte) bytes (omega arith),
       )
       )
     where
       step : (j n : ℕ) → j < recordBytes → take (suc n) (drop (recordBytes * i + j) d) ≡ getD d (recordBytes * i + j) 0 ∷ take n (drop (recordBytes * i + suc j) d)
       step j n l = part-next d (recordBytes * i) j n (omega arith)
+
+  -- A record that is the one due, made again.
+  record-back : (i : ℕ) (k : Block) (p z q : ℕ) → recordBytes * i + recordBytes ≤ length d → isDue d i k p z q ≡ true
+      → deliveryRecord (kindOf k) p z q (valueAt d i) ≡ take recordBytes (drop (recordBytes * i) d)
+  record-back i k p z q room e =
+      let (kind, (state, (symbol, exit))) = due-exactly d i k p z q .0 e in rw (kind, state, symbol, exit) at (record-again i room)
 
   -- A block of entries from record `from` on, made again.
   block-back : (s g : ℕ) (k : Block) (v : Vector) (from : ℕ) → recordBytes * (from + entriesIn s g) ≤ length d
