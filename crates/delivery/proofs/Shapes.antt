@@ -1,13 +1,13 @@
--- What the shape of a file means: its length is that of the shape, a file without a shape has the length of none, and every length of a
+-- Two shapes are the same where their blocks are. What the shape of a file means: its length is that of the shape, a file without a shape has the length of none, and every length of a
 -- shape gives that shape. Where s is 1, UL and UR are equally long, and the kind of record V tells them apart. Besides, the choice of a
 -- shape as the code makes it, and that the file holds every block of its shape.
 use Prim.Native.Nat.{ℕ, _+_, _*_, _≤_, _<_}
 use native.Mathlib.Nat.{mul-pos, mul-le-mul-left}
 use native.Mathlib.Omega.{arith}
-use mathlib.Core.Bool.{Bool, true, false, cond, _&&_, true≢false}
+use mathlib.Core.Bool.{Bool, true, false, cond, _&&_, Bool·beq, true≢false}
 use mathlib.Core.List.{List}
 use mathlib.Core.Logic.{_↔_}
-use mathlib.Core.Path.{_≡_, refl, sym, ap, subst, _∙_}
+use mathlib.Core.Path.{_≡_, refl, sym, ap, ap₂, subst, _∙_}
 use lib.Dec.{eqb}
 use lib.ListN.{length}
 use borrow.Author.Tests.{eqb-true, eq-eqb, ne-eqb}
@@ -19,8 +19,37 @@ use Rattle.delivery.specs.declared.shape.Block.the-variants.{Lowers}
 use Rattle.delivery.specs.Format.{recordBytes}
 use Rattle.delivery.specs.Records.{kindAt, kindOf}
 use Rattle.delivery.specs.Contracts.{HasRecord}
-use Rattle.delivery.specs.Shapes.{hasLowers, hasMeans, meansFrom, recordsIn, longAs, lowersOrMeans, shapeOf}
+use Rattle.delivery.specs.Shapes.{hasLowers, hasMeans, sameShape, meansFrom, recordsIn, longAs, lowersOrMeans, shapeOf}
 use Rattle.walks.specs.Order.{entriesIn, rowsIn}
+use Rattle.walks.proofs.Exactly.{both}
+
+-- ---- blocks
+
+-- A test of two answers says whether they are the same.
+alike : (a b : Bool) → (Bool·beq a b ≡ true) ↔ (a ≡ b)
+alike true true = (λ e. refl, λ e. refl)
+alike true false = (λ e. absurd (true≢false (sym e)), λ e. absurd (true≢false e))
+alike false true = (λ e. absurd (true≢false (sym e)), λ e. absurd (true≢false (sym e)))
+alike false false = (λ e. refl, λ e. refl)
+
+-- A shape by its blocks.
+abbrev byBlocks : Bool → Bool → Shape
+byBlocks lowers means = cond lowers (cond means ULR UL) (cond means UR U)
+
+blocks-tell : (h : Shape) → byBlocks (hasLowers h) (hasMeans h) ≡ h
+blocks-tell U = refl
+blocks-tell UL = refl
+blocks-tell UR = refl
+blocks-tell ULR = refl
+
+pub same-shape : (h k : Shape) → (sameShape h k ≡ true) ↔ (h ≡ k)
+same-shape h k = (
+  λ e. let (lowers, means) = blocks .0 e in sym (blocks-tell h) ∙ ap₂ byBlocks lowers means ∙ blocks-tell k,
+  λ e. blocks .1 (ap hasLowers e, ap hasMeans e),
+)
+  where
+    blocks : (sameShape h k ≡ true) ↔ ((hasLowers h ≡ hasLowers k) × (hasMeans h ≡ hasMeans k))
+    blocks = both _ _ (alike (hasLowers h) (hasLowers k)) (alike (hasMeans h) (hasMeans k))
 
 -- ---- lengths
 

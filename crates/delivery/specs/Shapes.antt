@@ -1,6 +1,6 @@
 -- The four shapes of a delivery. "Shape" is document 01's term.
 use Prim.Native.Nat.{ℕ, _+_, _*_}
-use mathlib.Core.Bool.{Bool, true, false, not, cond, _&&_}
+use mathlib.Core.Bool.{Bool, true, false, not, cond, _&&_, Bool·beq}
 use mathlib.Core.List.{List}
 use lib.Dec.{eqb}
 use lib.ListN.{length}
@@ -25,6 +25,10 @@ hasMeans U = false
 hasMeans UL = false
 hasMeans UR = true
 hasMeans ULR = true
+
+-- Two shapes are the same: both have lowers or neither, and both have mean steps or neither. Every shape has uppers.
+abbrev pub sameShape : Shape → Shape → Bool
+sameShape h k = Bool·beq (hasLowers h) (hasLowers k) && Bool·beq (hasMeans h) (hasMeans k)
 
 -- The record at which a shape's mean steps start, after the uppers and the lowers.
 unfoldable pub meansFrom : ℕ → ℕ → Shape → ℕ

@@ -11,7 +11,7 @@ ghost use Rattle.model.specs.Format.{mostRows};
 ghost use Rattle.model.specs.Contracts.{Fits};
 ghost use Rattle.delivery.specs.Format.{mostRecords};
 ghost use Rattle.delivery.specs.Contracts.{HasRecord};
-ghost use Rattle.delivery.specs.Shapes.{hasLowers, hasMeans, meansFrom, recordsIn, longAs, lowersOrMeans, shapeOf};
+ghost use Rattle.delivery.specs.Shapes.{hasLowers, hasMeans, sameShape, meansFrom, recordsIn, longAs, lowersOrMeans, shapeOf};
 
 // The four shapes: uppers; with lowers; with mean steps; with both.
 pub enum Shape {
@@ -56,6 +56,13 @@ pub fn has_means(shape: Shape) -> bool
         Shape::UR => true,
         Shape::ULR => true,
     }
+}
+
+// Whether two shapes are the same.
+pub fn same_shape(a: Shape, b: Shape) -> bool
+    ensures { λ r. ⌜ r ≡ sameShape a b ⌝ }
+{
+    (has_lowers(a) == has_lowers(b)) & (has_means(a) == has_means(b))
 }
 
 // The record at which a shape's mean steps start.
