@@ -7,12 +7,16 @@ use mathlib.Core.Path.{_≡_, refl, sym}
 use lib.ListN.{getD}
 use borrow.Author.Tests.{eqb-true, eq-eqb}
 use Rattle.walks.proofs.Sums.{all-exactly}
+use Rattle.walks.specs.Order.{entriesIn, rowsIn}
+use Rattle.delivery.specs.declared.shape.Shape.{Shape}
+use Rattle.held.specs.declared.HeldDelivery.{HeldDelivery}
 use Rattle.held.specs.declared.Numbers.{Numbers}
+use Rattle.held.specs.Held.{isHeldAs}
 use Rattle.calls.specs.declared.Mark.the-variants.{Known, New}
-use Rattle.filing.specs.Known.{sameTo, markBy}
+use Rattle.filing.specs.Known.{sameTo, sameNumbers, markBy}
 
 -- Two tests that hold in the same cases are the same.
-same-test : (a b : Bool) → (a ≡ true) ↔ (b ≡ true) → a ≡ b
+pub same-test : (a b : Bool) → (a ≡ true) ↔ (b ≡ true) → a ≡ b
 same-test true b f = sym (f .0 refl)
 same-test false true f = f .1 refl
 same-test false false f = refl
@@ -27,11 +31,20 @@ same-exactly n l k = (
 pub same-found : (n : ℕ) (l k : List ℕ) {t : Bool} → (t ≡ true) ↔ ((e : ℕ) → e < n → getD l e 0 ≡ getD k e 0) → t ≡ sameTo n l k
 same-found n l k {t} f = same-test t (sameTo n l k) (λ q. same-exactly n l k .1 (f .0 q), λ q. f .1 (same-exactly n l k .0 q))
 
-module _ (another : Bool) (n : ℕ) (former numbers : Numbers) {u : Bool} (same : u ≡ sameTo n (former .uppers) (numbers .uppers)) where
-  pub is-known : (another && u) ≡ true → Known ≡ markBy another n former numbers
-  unfolding markBy
-  is-known e = rw (← same, e)
+-- The numbers of two deliveries by the tests of their lists.
+module _ (s g : ℕ) (former numbers : Numbers) {v r : ℕ} (entries : v ≡ entriesIn s g) (rows : r ≡ rowsIn s g) where
+  pub numbers-found : {a b c : Bool} → a ≡ sameTo v (former .uppers) (numbers .uppers) → b ≡ sameTo v (former .lowers) (numbers .lowers)
+      → c ≡ sameTo r (former .means) (numbers .means) → (a && b && c) ≡ sameNumbers s g former numbers
+  unfolding sameNumbers
+  numbers-found uppers lowers means = rw (uppers, lowers, means, entries, rows)
 
-  pub is-new : (another && u) ≡ false → New ≡ markBy another n former numbers
+-- The mark by the tests of the shape and of the numbers.
+module _ (s g : ℕ) (held : HeldDelivery) (former : Numbers) (h : Shape) (numbers : Numbers) {t u : Bool} (shapes : t ≡ isHeldAs held h)
+    (same : u ≡ sameNumbers s g former numbers) where
+  pub is-known : (t && u) ≡ true → Known ≡ markBy s g held former h numbers
   unfolding markBy
-  is-new e = rw (← same, e)
+  is-known e = rw (← shapes, ← same, e)
+
+  pub is-new : (t && u) ≡ false → New ≡ markBy s g held former h numbers
+  unfolding markBy
+  is-new e = rw (← shapes, ← same, e)

@@ -2,18 +2,21 @@
 // accepted delivery.
 
 use calls::Mark;
+use delivery::shape::Shape;
+use held::HeldDelivery;
 use held::HeldModel;
 use held::Numbers;
 use held::holds_model;
+use held::is_held_as;
 use held::lists::same;
+use model::sizes::Sizes;
 use outcome::Outcome;
 use outcome::Reason;
 use outcome::refused;
 ghost use mathlib.Core.Path.{_≡_};
-ghost use Prim.Native.Nat.{_≤_};
-ghost use Rattle.model.specs.Format.{mostEntries};
+ghost use Rattle.model.specs.Contracts.{Fits};
 ghost use Rattle.filing.specs.Outcomes.{modelOutcome, deliveryOutcome};
-ghost use Rattle.filing.specs.Known.{markBy};
+ghost use Rattle.filing.specs.Known.{sameNumbers, markBy};
 
 // The outcome of filing a model where one of this length is held, or none.
 pub fn model_outcome(length: usize, file: &[u8]) -> Outcome
@@ -37,14 +40,35 @@ pub fn delivery_outcome(held: HeldModel, file: &[u8]) -> Outcome
     certificate::check(&bytes[..length], file)
 }
 
-// The mark of a delivery with these numbers, of n entries, by whether another was held.
-pub fn mark_by(another: bool, n: usize, former: Numbers, numbers: Numbers) -> Mark
-    requires { ⌜ n ≤ mostEntries ⌝ }
-    ensures { λ r. ⌜ r ≡ markBy another n former numbers ⌝ }
+// Whether two deliveries have the same numbers: uppers and lowers of the entries, mean steps of the rows.
+fn same_numbers(n: Sizes, former: Numbers, numbers: Numbers) -> bool
+    requires { ⌜ Fits (n .states) (n .symbols) ⌝ }
+    ensures { λ r. ⌜ r ≡ sameNumbers (n .states) (n .symbols) former numbers ⌝ }
 {
-    let before = former.uppers;
-    let after = numbers.uppers;
-    if another & same(&before, &after, n) {
+    let former_uppers = former.uppers;
+    let former_lowers = former.lowers;
+    let former_means = former.means;
+    let uppers = numbers.uppers;
+    let lowers = numbers.lowers;
+    let means = numbers.means;
+    let v = n.entries();
+    same(&former_uppers, &uppers, v)
+        & same(&former_lowers, &lowers, v)
+        & same(&former_means, &means, n.rows())
+}
+
+// The mark of a delivery of this shape with these numbers, by what was held before it.
+pub fn mark_by(
+    n: Sizes,
+    held: HeldDelivery,
+    former: Numbers,
+    shape: Shape,
+    numbers: Numbers,
+) -> Mark
+    requires { ⌜ Fits (n .states) (n .symbols) ⌝ }
+    ensures { λ r. ⌜ r ≡ markBy (n .states) (n .symbols) held former shape numbers ⌝ }
+{
+    if is_held_as(held, shape) & same_numbers(n, former, numbers) {
         Mark::Known
     } else {
         Mark::New

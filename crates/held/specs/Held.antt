@@ -12,7 +12,7 @@ use Rattle.delivery.specs.declared.shape.Shape.{Shape}
 use Rattle.delivery.specs.declared.shape.Shape.the-variants.{U}
 use Rattle.delivery.specs.declared.shape.Shaped as Shapes
 use Rattle.delivery.specs.declared.shape.Shaped.the-variants as Shaped
-use Rattle.delivery.specs.Shapes.{hasLowers, hasMeans}
+use Rattle.delivery.specs.Shapes.{hasLowers, hasMeans, sameShape}
 use Rattle.walks.specs.Order.{entriesIn, rowsIn, byRow, byEntry}
 use Rattle.delivery.specs.Numbers.{uppersOf, lowersOf, meansOf}
 use Rattle.verdict.specs.Marks.{liveMark}
@@ -74,10 +74,14 @@ numbersHeld b h d =
 unfoldable pub holdsModel : ℕ → Bool
 holdsModel n = ltb 0 n && leb n mostBytes
 
--- Whether a delivery is held, one with lowers, one with mean steps.
+-- Whether a delivery is held, one of shape k, one with lowers, one with mean steps.
 abbrev pub isHeld : HeldDelivery → Bool
 isHeld Nothing = false
 isHeld (Of h) = true
+
+abbrev pub isHeldAs : HeldDelivery → Shape → Bool
+isHeldAs Nothing k = false
+isHeldAs (Of h) k = sameShape h k
 
 abbrev pub lowersStand : HeldDelivery → Bool
 lowersStand Nothing = false

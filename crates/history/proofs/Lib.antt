@@ -1,8 +1,10 @@
 -- The theorems of the mission for every sequence of calls.
 pub mod Computed
 pub mod Refusals
+pub mod Same
 pub mod Pairs
 pub mod Plain
+pub mod Known
 pub mod Replies
 pub mod Named
 pub mod Shown

@@ -6,6 +6,7 @@ use Rattle.history.specs.Run.{registerAfter}
 use Rattle.history.specs.Mission.{Mission}
 use Rattle.history.proofs.Refusals.{refused-keeps}
 use Rattle.history.proofs.Plain.{holds-pair, as-plain-pair, model-taken, counter-taken, counter-held, delivery-taken}
+use Rattle.history.proofs.Known.{known-held, held-known}
 use Rattle.history.proofs.Replies.{replies-as-plain}
 use Rattle.history.proofs.Named.{number-listed, model-named, counter-named, delivery-named}
 use Rattle.history.proofs.Shown.{upper-shown, lower-shown, mean-shown, live-shown, short-shown, short-under-upper}
@@ -20,6 +21,8 @@ mission cs = record {
   counters-held = counter-held cs;
   deliveries-taken = delivery-taken cs;
   deliveries-marked = marked (registerAfter cs);
+  known-held = known-held cs;
+  held-known = held-known cs;
   models-named = model-named cs;
   counters-named = counter-named cs;
   deliveries-named = delivery-named cs;

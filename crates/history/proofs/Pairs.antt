@@ -1,25 +1,21 @@
 -- A register that holds a pair of accepted files replies to each call as the plain pair does, and holds the next pair after it.
-use Prim.Native.Nat.{ℕ, _<_}
+use Prim.Native.Nat.{ℕ}
 use native.Mathlib.Omega.{arith}
 use mathlib.Core.Bool.{Bool, true, false, cond, _&&_}
 use mathlib.Core.List.{List}
-use mathlib.Core.Logic.{_↔_, Iff·trans}
 use mathlib.Core.Option.{Option, none, some}
-use mathlib.Core.Path.{_≡_, refl, sym, ap, _∙_}
+use mathlib.Core.Path.{_≡_, refl, ap}
 use lib.Dec.{ltb, leb}
-use lib.ListN.{length, getD}
+use lib.ListN.{length}
 use Rattle.outcome.specs.declared.Outcome.{Outcome}
 use Rattle.outcome.specs.declared.Outcome.the-variants.{Accepted, Refused}
-use Rattle.walks.proofs.Exactly.{lt-exactly, le-exactly, eq-exactly, both}
+use Rattle.walks.proofs.Exactly.{lt-exactly, le-exactly, both}
 use Rattle.ppda.specs.Equations.{Vector, RowVector, entries, rows, SameRows, Same}
-use Rattle.walks.specs.Order.{entriesIn}
-use Rattle.walks.proofs.Sums.{all-exactly}
 use Rattle.model.specs.Records.{statesOf, symbolsOf}
 use Rattle.model.specs.Format.{mostBytes}
 use Rattle.wellformed.specs.Verdict.{modelVerdict}
 use Rattle.model.proofs.Accepted.{sized-fits}
 use Rattle.wellformed.proofs.Accepted.{model-accepted, sized-of}
-use Rattle.delivery.specs.Records.{kindAt, stateAt, symbolAt, exitAt, valueAt}
 use Rattle.delivery.specs.declared.shape.Shaped.the-variants.{Of}
 use Rattle.delivery.specs.Shapes.{hasLowers, hasMeans, shapeOf}
 use Rattle.delivery.specs.Numbers.{uppersOf, lowersOf, meansOf}
@@ -29,15 +25,13 @@ use Rattle.verdict.specs.Accepted.{RightFiles}
 use Rattle.certificate.specs.Margin.{marginOf}
 use Rattle.verdict.specs.Verdict.{verdict}
 use Rattle.verdict.proofs.Accepted.{delivery-accepted}
-use Rattle.certificate.proofs.Rest.{at-numbers}
 use Rattle.calls.specs.declared.Mark.the-variants.{Known, New}
 use Rattle.held.specs.Held.{listed, listedRows, noModel, modelHeld, numbersHeld, holdsModel}
 use Rattle.held.specs.Places.{hasRow, hasEntry, rowValue, entryValue}
 use Rattle.held.proofs.Listed.{listed-at, rows-at, filled-back}
 use Rattle.register.specs.Filing as Filing
 use Rattle.filing.specs.Outcomes.{modelOutcome, fileOf, deliveryOutcome}
-use Rattle.filing.specs.Known.{sameTo, markBy}
-use Rattle.filing.proofs.Known.{same-found}
+use Rattle.filing.specs.Known.{markBy}
 use Rattle.register.specs.Filing.{withModel, modelBy, deliveryBy, received, shapeFor}
 use Rattle.calls.specs.Answers.{answered}
 use Rattle.register.specs.Questions.{hasModel, upperIn, lowerIn, meanIn, marginIn, liveIn, withinIn}
@@ -47,7 +41,7 @@ use Rattle.counter.specs.Filing.{counterOutcome, counterBy}
 use Rattle.counter.specs.Filing as Counter
 use Rattle.counter.proofs.Made.{made-accepted}
 use Rattle.calls.specs.Calls.{Call, clear, fileModel, fileCounter, fileDelivery, upper, lower, meanSteps, margin, live, within, Reply, accepted, known, new, value, refusal, taken}
-use Rattle.history.specs.Plain.{Pair, ofModel, ofDelivery, ifNone, atRow, atEntry, ofBlock, toThree, byVerdict, sameRecord, sameUppers, markOf, modelAfter, deliveryAfter, plainReply}
+use Rattle.history.specs.Plain.{Pair, ofModel, ofDelivery, ifNone, atRow, atEntry, ofBlock, toThree, byVerdict, sameDelivery, markOf, modelAfter, deliveryAfter, plainReply}
 use Rattle.calls.specs.Answers.{answeredOr, modelReply, markReply, deliveryReply, answerReply}
 use Rattle.outcome.specs.declared.Reason.the-variants.{TooManySteps}
 use Rattle.ppda.specs.Chances.{chance}
@@ -55,6 +49,7 @@ use Rattle.model.specs.Rules.{rulesOf}
 use Rattle.shortruns.specs.Short.{fewSteps}
 use Rattle.questions.specs.Questions.{shortChance}
 use Rattle.history.specs.Run.{afterCall, replyOf, holding, registerOf}
+use Rattle.history.proofs.Same.{delivery-same}
 
 -- The reply to a question on a block that the held delivery may have, for the model b and the delivery d.
 abbrev pub lowerReply : List ℕ → List ℕ → ℕ → ℕ → ℕ → Reply
@@ -218,50 +213,13 @@ module _ (b d : List ℕ) (is : verdict b d ≡ Accepted) where
       go true = refl
       go false = refl
 
-  -- The uppers in the register are the values of the file's first records.
-  uppers-held : (i : ℕ) → i < entriesIn (statesOf b) (symbolsOf b)
-      → getD (listed (statesOf b) (symbolsOf b) (uppersOf (statesOf b) (symbolsOf b) d)) i 0 ≡ valueAt d i
-  unfolding uppersOf
-  uppers-held = at-numbers _ (listed-same b model-is (uppersOf (statesOf b) (symbolsOf b) d))
-
 -- ---- a delivery filed
-
--- The same first V records are the same uppers: kind, p, Z and q are those due there in both files.
-module _ (b e d : List ℕ) (former : verdict b e ≡ Accepted) (is : verdict b d ≡ Accepted) where
-  bytes-same : (i : ℕ) → i < entriesIn (statesOf b) (symbolsOf b)
-      → (kindAt e i ≡ kindAt d i)
-      × ((stateAt e i ≡ stateAt d i) × ((symbolAt e i ≡ symbolAt d i) × (exitAt e i ≡ exitAt d i)))
-  bytes-same =
-      at-numbers _ (λ p z q hp hz hq.
-      let a = filed b e former .delivery .uppers .due p z q hp hz hq in
-      let c = filed b d is .delivery .uppers .due p z q hp hz hq in
-      (a .kind ∙ sym (c .kind), (a .state ∙ sym (c .state), (a .symbol ∙ sym (c .symbol), a .exit ∙ sym (c .exit)))))
-
-  record-same : (i : ℕ) → (sameRecord e d i ≡ true)
-      ↔ ((kindAt e i ≡ kindAt d i)
-      × ((stateAt e i ≡ stateAt d i)
-      × ((symbolAt e i ≡ symbolAt d i) × ((exitAt e i ≡ exitAt d i) × (valueAt e i ≡ valueAt d i)))))
-  record-same i =
-      both _ _ (eq-exactly _ _) (both _ _ (eq-exactly _ _) (both _ _ (eq-exactly _ _) (both _ _ (eq-exactly _ _) (eq-exactly _ _))))
-
-  uppers-same : sameUppers b e d
-      ≡ sameTo (entriesIn (statesOf b) (symbolsOf b))
-      (listed (statesOf b) (symbolsOf b) (uppersOf (statesOf b) (symbolsOf b) e))
-      (listed (statesOf b) (symbolsOf b) (uppersOf (statesOf b) (symbolsOf b) d))
-  unfolding sameUppers
-  uppers-same =
-      same-found _ _ _ (Iff·trans (all-exactly (sameRecord e d) (entriesIn (statesOf b) (symbolsOf b))) (
-        λ all i lt. uppers-held b e former i lt ∙ record-same i .0 (all i lt) .1 .1 .1 .1 ∙ sym (uppers-held b d is i lt),
-        λ all i lt.
-            let (kind, (state, (symbol, exit))) = bytes-same i lt in
-            record-same i .1 (kind, (state, (symbol, (exit, sym (uppers-held b e former i lt) ∙ all i lt ∙ uppers-held b d is i lt)))),
-      ))
 
 mark-reply : (b d : List ℕ) (y : Option (List ℕ)) → Right (some b) y → verdict b d ≡ Accepted
     → markReply (received (holding (some b) y) b (shapeFor b d) d .mark) ≡ markOf b y d
-unfolding withModel markBy numbersHeld
+unfolding withModel markBy
 mark-reply b d none right is = refl
-mark-reply b d (some e) right is = rw (← uppers-same b e d right is) (go (sameUppers b e d))
+mark-reply b d (some e) right is = rw (← delivery-same b e d right is) (go (sameDelivery b e d))
   where
     go : (t : Bool) → markReply (cond t Known New) ≡ cond t known new
     go true = refl
@@ -273,7 +231,7 @@ delivery-held b d (some e) = refl
 
 pub mark-taken : (b d : List ℕ) (y : Option (List ℕ)) → taken (markOf b y d) ≡ true
 mark-taken b d none = refl
-mark-taken b d (some e) = go (sameUppers b e d)
+mark-taken b d (some e) = go (sameDelivery b e d)
   where
     go : (t : Bool) → taken (cond t known new) ≡ true
     go true = refl

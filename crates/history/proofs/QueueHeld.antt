@@ -40,7 +40,7 @@ use Rattle.onecounter.specs.Edges.{queue}
 use Rattle.onecounter.specs.Promised.{PassageUpper, PassageLower, PassageMean}
 use Rattle.calls.specs.Calls.{Call, fileCounter, fileDelivery, upper, lower, meanSteps, within, Reply, accepted, new, value}
 use Rattle.calls.specs.Calls as Calls
-use Rattle.history.specs.Plain.{Event, pairOf, lastModel, lastDelivery, sameUppers, plainReply}
+use Rattle.history.specs.Plain.{Event, pairOf, lastModel, lastDelivery, sameDelivery, plainReply}
 use Rattle.history.specs.Run.{replyTo, history}
 use Rattle.history.specs.Edges.{due, queueDelivery}
 use Rattle.history.specs.Mission.{HoldsCounter}
@@ -72,7 +72,7 @@ record Computed : Type 0 where
   short-asked : plainReply (pairOf bothPast) (within 3 0 0 0) ≡ value 162727720910848
 
 computed : Computed
-unfolding chanceFrom overRunsWithin overRuns lists flatMap after weigh first each wordAt sign sum sumTo leastTo fits overRow f meanSide mark isLive alive share shareAt margin recordsOf field weight greatestTo statesOf symbolsOf ruleOf listTo rulesOf rowOf rowSum wholeRecords rangeAt unusedAt weightAt ascends recordTests rowTests rowsTests modelTests modelVerdict byteOf valueAt meansFrom recordsIn longAs lowersOrMeans shapeOf uppersOf lowersOf meansOf eachEntry eachRow isDue inRange layout.recordTests deadTest upperTest belowTest lowerTest meanTest upperRecords lowerRecords meanRecords deadTests upperTests belowTests lowerTests meanTests layoutTests numberTests shapedTests deliveryTests verdict.verdict marginOf liveMark allTo lastModel lastDelivery sameUppers plainReply wholeMoves moveInRange moveAscends moveTests stateSum stateTests counterTests counterVerdict movesIn byteIn weightIn statesIn moveOf movesOf rulesFor madeModel counterModel
+unfolding chanceFrom overRunsWithin overRuns lists flatMap after weigh first each wordAt sign sum sumTo leastTo fits overRow f meanSide mark isLive alive share shareAt margin recordsOf field weight greatestTo statesOf symbolsOf ruleOf listTo rulesOf rowOf rowSum wholeRecords rangeAt unusedAt weightAt ascends recordTests rowTests rowsTests modelTests modelVerdict byteOf valueAt meansFrom recordsIn longAs lowersOrMeans shapeOf uppersOf lowersOf meansOf eachEntry eachRow isDue inRange layout.recordTests deadTest upperTest belowTest lowerTest meanTest upperRecords lowerRecords meanRecords deadTests upperTests belowTests lowerTests meanTests layoutTests numberTests shapedTests deliveryTests verdict.verdict marginOf liveMark allTo lastModel lastDelivery sameDelivery plainReply wholeMoves moveInRange moveAscends moveTests stateSum stateTests counterTests counterVerdict movesIn byteIn weightIn statesIn moveOf movesOf rulesFor madeModel counterModel
 computed = record { counter = refl; delivery = refl; upper-asked = refl; lower-asked = refl; margin-asked = refl; mean-asked = refl; short-asked = refl }
 
 -- ---- so does a register

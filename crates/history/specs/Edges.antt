@@ -37,7 +37,7 @@ abbrev pub AllTables : (List Event → Type 0) → List (List Event) → Type 0
 AllTables P [] = Unit {0}
 AllTables P (t ∷ ts) = P t × AllTables P ts
 
--- Deliveries for W: the uppers alone, with the first and the last one open; with lowers; with mean steps.
+-- Deliveries for W: the uppers alone, with the first and the last one open; with lowers, all open but that of the dead entry; with mean steps, both open.
 abbrev pub uppersFileWith : ℕ → ℕ → List ℕ
 uppersFileWith a u =
     deliveryRecord 85 0 0 0 a ++ (deliveryRecord 85 0 0 1 524288
@@ -46,13 +46,19 @@ uppersFileWith a u =
 abbrev pub uppersFile : List ℕ
 uppersFile = uppersFileWith 655360 1179648
 
+abbrev pub lowersFileWith : ℕ → ℕ → ℕ → List ℕ
+lowersFileWith a k l =
+    uppersFile ++ (deliveryRecord 76 0 0 0 a ++ (deliveryRecord 76 0 0 1 k
+    ++ (deliveryRecord 76 1 0 0 0 ++ deliveryRecord 76 1 0 1 l)))
+
 abbrev pub lowersFile : List ℕ
-lowersFile =
-    uppersFile ++ (deliveryRecord 76 0 0 0 524288 ++ (deliveryRecord 76 0 0 1 393216
-    ++ (deliveryRecord 76 1 0 0 0 ++ deliveryRecord 76 1 0 1 1048576)))
+lowersFile = lowersFileWith 524288 393216 1048576
+
+abbrev pub meansFileWith : ℕ → ℕ → List ℕ
+meansFileWith a r = uppersFile ++ (deliveryRecord 82 0 0 0 a ++ deliveryRecord 82 1 0 0 r)
 
 abbrev pub meansFile : List ℕ
-meansFile = uppersFile ++ (deliveryRecord 82 0 0 0 512 ++ deliveryRecord 82 1 0 0 256)
+meansFile = meansFileWith 512 256
 
 -- Nothing is held: 40, whatever is filed or asked.
 abbrev pub emptyExchanges : List Event
@@ -111,23 +117,23 @@ upperExchanges =
     ∷ due (fileDelivery uppersFile) new
     ∷ []
 
--- The same uppers with lowers are known; mean steps get 43.
+-- The same uppers with lowers are new; mean steps get 43.
 abbrev pub lowerExchanges : List Event
 lowerExchanges =
     due (fileModel wFile) accepted
     ∷ due (fileDelivery uppersFile) new
-    ∷ due (fileDelivery lowersFile) known
+    ∷ due (fileDelivery lowersFile) new
     ∷ due (lower 0 0 1) (value 393216)
     ∷ due margin (value 45875)
     ∷ due (meanSteps 0 0) (refusal 43)
     ∷ []
 
--- The same uppers with mean steps are known; lowers and the margin get 43.
+-- The same uppers with mean steps are new; lowers and the margin get 43.
 abbrev pub meanExchanges : List Event
 meanExchanges =
     due (fileModel wFile) accepted
     ∷ due (fileDelivery uppersFile) new
-    ∷ due (fileDelivery meansFile) known
+    ∷ due (fileDelivery meansFile) new
     ∷ due (meanSteps 0 0) (value 512)
     ∷ due (meanSteps 1 0) (value 256)
     ∷ due (lower 0 0 0) (refusal 43)
@@ -147,7 +153,7 @@ allExchanges =
     ∷ due (meanSteps 0 0) (value 512)
     ∷ due (fileDelivery (wDelivery 466034 512)) new
     ∷ due (upper 0 0 1) (value 466034)
-    ∷ due (fileDelivery (wDelivery 466034 486)) known
+    ∷ due (fileDelivery (wDelivery 466034 486)) new
     ∷ due (meanSteps 0 0) (value 486)
     ∷ due clear cleared
     ∷ due (upper 0 0 1) (refusal 40)
@@ -155,8 +161,8 @@ allExchanges =
     ∷ due (upper 0 0 0) (refusal 42)
     ∷ []
 
--- Two states and two symbols: a delivery is new where an upper of the second symbol or of the second state alone differs; each number is that of its
--- own entry and row.
+-- Two states and two symbols: a delivery is new where an upper or mean steps of the second symbol or of the second state alone differ; each number is that of
+-- its own entry and row.
 abbrev pub wideExchanges : List Event
 wideExchanges =
     due (fileModel allToZero) accepted
@@ -171,6 +177,64 @@ wideExchanges =
     ∷ due (live 0 1 0) (value 1)
     ∷ due (live 1 0 1) (value 0)
     ∷ due (upper 1 2 0) (refusal 44)
+    ∷ due (fileDelivery (fourRows 0 1048579 0 1048576 0 258 258)) new
+    ∷ due (fileDelivery (fourRows 0 1048579 0 1048576 0 258 259)) new
+    ∷ due (fileDelivery (fourRows 0 1048579 0 1048576 0 258 259)) known
+    ∷ []
+
+-- Marks (request A.3), under the same uppers throughout: a delivery is new with a block more, of zeros alone too, or fewer; where a lower or mean steps alone
+-- differ, the first and the last; and known where it is the very same file, also after a refused one, but not after a clearing.
+abbrev pub markExchanges : List Event
+markExchanges =
+    due (fileModel wFile) accepted
+    ∷ due (fileDelivery uppersFile) new
+    ∷ due (fileDelivery uppersFile) known
+    ∷ due (fileDelivery (lowersFileWith 0 0 0)) new
+    ∷ due margin (value 45875)
+    ∷ due (fileDelivery uppersFile) new
+    ∷ due margin (refusal 43)
+    ∷ due (fileDelivery lowersFile) new
+    ∷ due (fileDelivery lowersFile) known
+    ∷ due (fileDelivery (lowersFileWith 524287 393216 1048576)) new
+    ∷ due (fileDelivery (lowersFileWith 524287 393215 1048576)) new
+    ∷ due (fileDelivery (lowersFileWith 524287 393215 1048575)) new
+    ∷ due (lower 1 0 1) (value 1048575)
+    ∷ due (fileDelivery (wDelivery 524288 512)) new
+    ∷ due (fileDelivery meansFile) new
+    ∷ due (fileDelivery meansFile) known
+    ∷ due (fileDelivery (meansFileWith 511 256)) new
+    ∷ due (fileDelivery (meansFileWith 511 257)) new
+    ∷ due (meanSteps 1 0) (value 257)
+    ∷ due (fileDelivery (wDelivery 524288 512)) new
+    ∷ due (fileDelivery (wDelivery 524288 511)) new
+    ∷ due (meanSteps 0 0) (value 511)
+    ∷ due (fileDelivery (wDelivery 466033 511)) (refused 24 1 (negsuc 30064771071))
+    ∷ due (fileDelivery (wDelivery 524288 511)) known
+    ∷ due clear cleared
+    ∷ due (fileModel wFile) accepted
+    ∷ due (fileDelivery (wDelivery 524288 511)) new
+    ∷ []
+
+-- Deliveries for a model of one state and one symbol, with the same two numbers: UL and UR, which are equally long.
+abbrev pub oneLower : List ℕ
+oneLower = deliveryRecord 85 0 0 0 1048577 ++ deliveryRecord 76 0 0 0 256
+
+abbrev pub oneMean : List ℕ
+oneMean = deliveryRecord 85 0 0 0 1048577 ++ deliveryRecord 82 0 0 0 256
+
+-- One state (request A.3): UL and UR with the same numbers are new beside each other, and known beside themselves.
+abbrev pub oneStateExchanges : List Event
+oneStateExchanges =
+    due (fileModel (oneRule 65536)) accepted
+    ∷ due (fileDelivery oneLower) new
+    ∷ due (fileDelivery oneMean) new
+    ∷ due (lower 0 0 0) (refusal 43)
+    ∷ due (meanSteps 0 0) (value 256)
+    ∷ due (fileDelivery oneMean) known
+    ∷ due (fileDelivery oneLower) new
+    ∷ due (lower 0 0 0) (value 256)
+    ∷ due (meanSteps 0 0) (refusal 43)
+    ∷ due (fileDelivery oneLower) known
     ∷ []
 
 -- Chances of short runs (request A.1), of all entries of W, 0 to 3 steps: they need a model only, and a delivery does not change them. 44 before 45, for each of p, Z and
@@ -261,6 +325,8 @@ exchanges =
     ∷ meanExchanges
     ∷ allExchanges
     ∷ wideExchanges
+    ∷ markExchanges
+    ∷ oneStateExchanges
     ∷ shortExchanges
     ∷ counterExchanges
     ∷ []

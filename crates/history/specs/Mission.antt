@@ -10,6 +10,7 @@ use lib.IntN.{ℤ}
 use Rattle.outcome.specs.Reasons.{numberOf}
 use Rattle.outcome.specs.Tests.{Test, FirstFailure}
 use Rattle.walks.specs.Sums.{In}
+use Rattle.words.specs.Words.{Bytes}
 use Rattle.ppda.specs.Chances.{chance}
 use Rattle.ppda.specs.Live.{isLive, Live}
 use Rattle.ppda.specs.Bounds.{AtMostUpper, UpperHolds, LowerHolds, MeanHolds}
@@ -26,8 +27,8 @@ use Rattle.counter.specs.Accepted.{CounterFile}
 use Rattle.counter.specs.Made.{counterModel}
 use Rattle.register.specs.declared.Register.{Register}
 use Rattle.register.specs.Filing.{cleared, Marked}
-use Rattle.calls.specs.Calls.{Call, clear, fileModel, fileCounter, fileDelivery, upper, lower, meanSteps, margin, live, within, accepted, value, refused, taken}
-use Rattle.history.specs.Plain.{lastModel, pairOf, plainReply, plainReplies}
+use Rattle.calls.specs.Calls.{Call, clear, fileModel, fileCounter, fileDelivery, upper, lower, meanSteps, margin, live, within, accepted, known, value, refused, taken}
+use Rattle.history.specs.Plain.{lastModel, lastDelivery, pairOf, plainReply, plainReplies}
 use Rattle.history.specs.Run.{afterCall, replyOf, registerAfter, replyTo, history, replies, registerOf}
 
 -- ---- point 1
@@ -66,6 +67,18 @@ ModelTaken cs = (b : List ℕ) → (replyTo cs (fileModel b) ≡ accepted) ↔ (
 
 abbrev pub DeliveryTaken : List Call → Type 0
 DeliveryTaken cs = (d : List ℕ) → (taken (replyTo cs (fileDelivery d)) ≡ true) ↔ ((b : List ℕ) × Holds cs b × RightFiles b d)
+
+-- The delivery that is held: the one last accepted for the held model.
+abbrev pub HoldsDelivery : List Call → List ℕ → Type 0
+HoldsDelivery cs e = lastDelivery (history cs) ≡ some e
+
+-- Request A.3: a delivery that is marked known is the very file that is held, byte by byte, and the file that is held is known. (Numbers of a file are bytes,
+-- which a list of numbers need not be.)
+abbrev pub KnownHeld : List Call → Type 0
+KnownHeld cs = (d : List ℕ) → replyTo cs (fileDelivery d) ≡ known → (e : List ℕ) × HoldsDelivery cs e × (Bytes e → Bytes d → e ≡ d)
+
+abbrev pub HeldKnown : List Call → Type 0
+HeldKnown cs = (d : List ℕ) → HoldsDelivery cs d → replyTo cs (fileDelivery d) ≡ known
 
 -- A counter file is accepted exactly where no model is held and request A.2's rules accept it.
 abbrev pub CounterTaken : List Call → Type 0
@@ -185,12 +198,14 @@ pub record Mission (cs : List Call) : Type 0 where
   pub numbers-listed : NumberListed cs
   pub refusals-keep : (c : Call) → RefusedKeeps (registerAfter cs) c
   -- 2. "Acceptance is exactly document 01's rules, in exact arithmetic", of counter files request A.2's, and then the model that is made is held; an accepted
-  -- delivery is marked, a refused one is not;
+  -- delivery is marked, a refused one is not; the file that is held is known, and no other (request A.3);
   pub models-taken : ModelTaken cs
   pub counters-taken : CounterTaken cs
   pub counters-held : CounterHeld cs
   pub deliveries-taken : DeliveryTaken cs
   pub deliveries-marked : (d : List ℕ) → Marked (registerAfter cs) d
+  pub known-held : KnownHeld cs
+  pub held-known : HeldKnown cs
   -- "otherwise the first failure in the fixed order is named."
   pub models-named : ModelNamed cs
   pub counters-named : CounterNamed cs

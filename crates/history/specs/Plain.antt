@@ -1,7 +1,7 @@
 -- The plain pair of document 01: "the last accepted model since the last clearing, and the last delivery accepted for it", and what such a
 -- pair of files replies to a call.
 use Prim.Native.Nat.{ℕ}
-use mathlib.Core.Bool.{Bool, cond, _&&_}
+use mathlib.Core.Bool.{Bool, false, cond, _&&_}
 use mathlib.Core.List.{List, [], _∷_}
 use mathlib.Core.Option.{Option, none, some}
 use lib.Dec.{eqb, ltb, leb}
@@ -9,7 +9,6 @@ use Rattle.outcome.specs.declared.Outcome.{Outcome}
 use Rattle.outcome.specs.declared.Outcome.the-variants.{Accepted, Refused}
 use Rattle.outcome.specs.Reasons.{numberOf}
 use Rattle.walks.specs.Sums.{allTo}
-use Rattle.walks.specs.Order.{entriesIn}
 use Rattle.ppda.specs.Chances.{chance}
 use Rattle.model.specs.Records.{statesOf, symbolsOf}
 use Rattle.model.specs.Rules.{rulesOf}
@@ -18,7 +17,7 @@ use Rattle.delivery.specs.declared.shape.Shape.{Shape}
 use Rattle.delivery.specs.declared.shape.Shaped.{Shaped}
 use Rattle.delivery.specs.declared.shape.Shaped.the-variants.{Of, Unknown}
 use Rattle.delivery.specs.Records.{kindAt, stateAt, symbolAt, exitAt, valueAt}
-use Rattle.delivery.specs.Shapes.{hasLowers, hasMeans, shapeOf}
+use Rattle.delivery.specs.Shapes.{hasLowers, hasMeans, sameShape, recordsIn, shapeOf}
 use Rattle.delivery.specs.Numbers.{uppersOf, lowersOf, meansOf}
 use Rattle.verdict.specs.Marks.{liveMark}
 use Rattle.verdict.specs.Verdict.{verdict}
@@ -121,14 +120,21 @@ sameRecord d e i =
     && (eqb (stateAt d i) (stateAt e i)
     && (eqb (symbolAt d i) (symbolAt e i) && (eqb (exitAt d i) (exitAt e i) && eqb (valueAt d i) (valueAt e i))))
 
--- Two deliveries for the model b have the same U block: records 0 to V − 1.
-unfoldable pub sameUppers : List ℕ → List ℕ → List ℕ → Bool
-sameUppers b d e = allTo (sameRecord d e) (entriesIn (statesOf b) (symbolsOf b))
+-- Two deliveries by their shapes, for a model with s states and g symbols: the shape is the same, and every record.
+abbrev pub sameAs : ℕ → ℕ → Shaped → Shaped → List ℕ → List ℕ → Bool
+sameAs s g (Of h) (Of k) d e = sameShape h k && allTo (sameRecord d e) (recordsIn s g h)
+sameAs s g (Of h) Unknown d e = false
+sameAs s g Unknown k d e = false
 
--- "Known" where a delivery was held whose U block is the same, else "new": document 01's marks.
+-- Two deliveries for the model b are the same.
+unfoldable pub sameDelivery : List ℕ → List ℕ → List ℕ → Bool
+sameDelivery b d e =
+    sameAs (statesOf b) (symbolsOf b) (shapeOf (statesOf b) (symbolsOf b) d) (shapeOf (statesOf b) (symbolsOf b) e) d e
+
+-- Document 01's marks, as request A.3 amends them: "known if its shape and every record equal the held one, and otherwise new".
 abbrev pub markOf : List ℕ → Option (List ℕ) → List ℕ → Reply
 markOf b none d = new
-markOf b (some e) d = cond (sameUppers b e d) known new
+markOf b (some e) d = cond (sameDelivery b e d) known new
 
 -- The reply of the plain pair.
 unfoldable pub plainReply : Pair → Call → Reply

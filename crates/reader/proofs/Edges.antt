@@ -33,7 +33,7 @@ use Rattle.verdict.specs.Verdict.{numberTests, shapedTests, deliveryTests}
 use Rattle.certificate.specs.Margin.{marginOf}
 use Rattle.certificate.specs.Edges.{wDelivery}
 use Rattle.shares.specs.Gap.{gapAt}
-use Rattle.history.specs.Plain.{sameUppers, plainReply}
+use Rattle.history.specs.Plain.{sameDelivery, plainReply}
 use Rattle.history.specs.Edges.{uppersFile}
 use Rattle.text.specs.Decimal.{digitsTo, decimal}
 use Rattle.text.specs.Reading.{pieces, wordsIn, numberAfter, numberIn}
@@ -48,12 +48,12 @@ use Rattle.reader.proofs.Reader.{reader}
 
 verdicts : (modelVerdict wFile ≡ Accepted) × (verdict.verdict wFile (wDelivery 524288 512) ≡ Accepted) × (verdict.verdict wFile uppersFile ≡ Accepted)
     × (verdict.verdict wFile (wDelivery 466033 512) ≡ Refused UpperTooSmall 1 (negsuc 30064771071))
-unfolding first each wordAt sign sum sumTo leastTo fits overRow f meanSide mark isLive alive share shareAt margin recordsOf field weight greatestTo statesOf symbolsOf ruleOf listTo rulesOf rowOf rowSum wholeRecords rangeAt unusedAt weightAt ascends recordTests rowTests rowsTests modelTests modelVerdict byteOf valueAt meansFrom recordsIn longAs lowersOrMeans shapeOf uppersOf lowersOf meansOf eachEntry eachRow isDue inRange layout.recordTests deadTest upperTest belowTest lowerTest meanTest upperRecords lowerRecords meanRecords deadTests upperTests belowTests lowerTests meanTests layoutTests numberTests shapedTests deliveryTests verdict.verdict marginOf liveMark allTo sameUppers plainReply
+unfolding first each wordAt sign sum sumTo leastTo fits overRow f meanSide mark isLive alive share shareAt margin recordsOf field weight greatestTo statesOf symbolsOf ruleOf listTo rulesOf rowOf rowSum wholeRecords rangeAt unusedAt weightAt ascends recordTests rowTests rowsTests modelTests modelVerdict byteOf valueAt meansFrom recordsIn longAs lowersOrMeans shapeOf uppersOf lowersOf meansOf eachEntry eachRow isDue inRange layout.recordTests deadTest upperTest belowTest lowerTest meanTest upperRecords lowerRecords meanRecords deadTests upperTests belowTests lowerTests meanTests layoutTests numberTests shapedTests deliveryTests verdict.verdict marginOf liveMark allTo sameDelivery plainReply
 verdicts = (refl, refl, refl, refl)
 
 lines : (acceptedLines (plainReply (both wFile (wDelivery 524288 512))) wFile (wDelivery 524288 512) ≡ wPrintout)
     × (acceptedLines (plainReply (both wFile uppersFile)) wFile uppersFile ≡ uppersPrintout)
-unfolding first each wordAt sign sum sumTo leastTo fits overRow f meanSide mark isLive alive share shareAt margin recordsOf field weight greatestTo statesOf symbolsOf ruleOf listTo rulesOf rowOf rowSum wholeRecords rangeAt unusedAt weightAt ascends recordTests rowTests rowsTests modelTests modelVerdict byteOf valueAt meansFrom recordsIn longAs lowersOrMeans shapeOf uppersOf lowersOf meansOf eachEntry eachRow isDue inRange layout.recordTests deadTest upperTest belowTest lowerTest meanTest upperRecords lowerRecords meanRecords deadTests upperTests belowTests lowerTests meanTests layoutTests numberTests shapedTests deliveryTests verdict.verdict marginOf liveMark allTo sameUppers plainReply digitsTo decimal gapAt liveEntries chanceOf chanceLines stepsLines linesBy
+unfolding first each wordAt sign sum sumTo leastTo fits overRow f meanSide mark isLive alive share shareAt margin recordsOf field weight greatestTo statesOf symbolsOf ruleOf listTo rulesOf rowOf rowSum wholeRecords rangeAt unusedAt weightAt ascends recordTests rowTests rowsTests modelTests modelVerdict byteOf valueAt meansFrom recordsIn longAs lowersOrMeans shapeOf uppersOf lowersOf meansOf eachEntry eachRow isDue inRange layout.recordTests deadTest upperTest belowTest lowerTest meanTest upperRecords lowerRecords meanRecords deadTests upperTests belowTests lowerTests meanTests layoutTests numberTests shapedTests deliveryTests verdict.verdict marginOf liveMark allTo sameDelivery plainReply digitsTo decimal gapAt liveEntries chanceOf chanceLines stepsLines linesBy
 lines = (refl, refl)
 
 -- ---- the printouts

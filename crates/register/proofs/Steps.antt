@@ -1,6 +1,6 @@
 -- What each filing gives, as the code finds it.
 use Prim.Native.Nat.{ℕ}
-use mathlib.Core.Bool.{Bool, true, false, false≢true}
+use mathlib.Core.Bool.{true, false, false≢true}
 use mathlib.Core.List.{List}
 use mathlib.Core.Path.{_≡_, refl}
 use lib.ListN.{take}
@@ -8,7 +8,6 @@ use Rattle.outcome.specs.declared.Outcome.{Outcome}
 use Rattle.outcome.specs.declared.Outcome.the-variants.{Accepted, Refused}
 use Rattle.outcome.specs.Tests.{isRefused}
 use Rattle.outcome.proofs.Tests.{not-refused}
-use Rattle.walks.specs.Order.{entriesIn}
 use Rattle.model.specs.declared.sizes.Sizes.{Sizes}
 use Rattle.model.specs.Sizes.{sizesOf}
 use Rattle.delivery.specs.declared.shape.Shape.{Shape}
@@ -16,7 +15,7 @@ use Rattle.delivery.specs.Shapes.{shapeOf}
 use Rattle.held.specs.declared.HeldModel.{HeldModel}
 use Rattle.held.specs.declared.HeldDelivery.the-variants as Held
 use Rattle.held.specs.declared.Numbers.{Numbers}
-use Rattle.held.specs.Held.{modelHeld, numbersHeld, noNumbers, isHeld, shapeAs}
+use Rattle.held.specs.Held.{modelHeld, numbersHeld, noNumbers, shapeAs}
 use Rattle.filing.specs.Outcomes.{modelOutcome, fileOf, deliveryOutcome}
 use Rattle.filing.specs.Known.{markBy}
 use Rattle.calls.specs.declared.Mark.{Mark}
@@ -53,13 +52,12 @@ module _ (r : Register) (d : List ℕ) {o : Outcome} (found : o ≡ deliveryOutc
   unfolding fileDelivery
   delivery-turned-away e = rw (← found) (delivery-by o r _ d e)
 
-  pub delivery-filed : {h : Shape} {n : Numbers} {z : Sizes} {v : ℕ} {t : Bool} {m : Mark} → isRefused o ≡ false
+  pub delivery-filed : {h : Shape} {n : Numbers} {z : Sizes} {m : Mark} → isRefused o ≡ false
       → h ≡ shapeAs (shapeOf (z .states) (z .symbols) d)
       → n ≡ numbersHeld (take (r .model .length) (r .model .bytes)) h d
       → z ≡ sizesOf (take (r .model .length) (r .model .bytes))
-      → v ≡ entriesIn (z .states) (z .symbols) → t ≡ isHeld (r .delivery) → m ≡ markBy t v (r .numbers) n
+      → m ≡ markBy (z .states) (z .symbols) (r .delivery) (r .numbers) h n
       → _≡_ {A = Received}
       (record { register = record { model = r .model; delivery = Held.Of h; numbers = n }; outcome = o; mark = m }) (fileDelivery r d)
   unfolding fileDelivery fileOf shapeFor
-  delivery-filed e shape numbers same entries another mark =
-      rw (← found, not-refused o e, ← (rw same at shape), ← numbers, ← (rw same at entries), ← another, ← mark)
+  delivery-filed e shape numbers same mark = rw (← found, not-refused o e, ← (rw same at shape), ← numbers, rw same at mark)

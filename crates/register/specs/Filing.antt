@@ -10,13 +10,12 @@ use Rattle.outcome.specs.Tests.{isRefused}
 use Rattle.model.specs.Records.{statesOf, symbolsOf}
 use Rattle.delivery.specs.declared.shape.Shape.{Shape}
 use Rattle.delivery.specs.Shapes.{shapeOf}
-use Rattle.walks.specs.Order.{entriesIn}
 use Rattle.held.specs.declared.HeldDelivery.the-variants as Held
 use Rattle.calls.specs.declared.Mark.the-variants.{Absent}
 use Rattle.register.specs.declared.Register.{Register}
 use Rattle.register.specs.declared.Filed.{Filed}
 use Rattle.register.specs.declared.Received.{Received}
-use Rattle.held.specs.Held.{shapeAs, noModel, noNumbers, modelHeld, numbersHeld, isHeld}
+use Rattle.held.specs.Held.{shapeAs, noModel, noNumbers, modelHeld, numbersHeld}
 use Rattle.filing.specs.Outcomes.{modelOutcome, fileOf, deliveryOutcome}
 use Rattle.filing.specs.Known.{markBy}
 
@@ -53,7 +52,7 @@ received r b h d =
     record {
       register = record { model = r .model; delivery = Held.Of h; numbers = numbersHeld b h d };
       outcome = Accepted;
-      mark = markBy (isHeld (r .delivery)) (entriesIn (statesOf b) (symbolsOf b)) (r .numbers) (numbersHeld b h d);
+      mark = markBy (statesOf b) (symbolsOf b) (r .delivery) (r .numbers) h (numbersHeld b h d);
     }
 
 -- Filing the delivery d for the held model b, by the outcome.

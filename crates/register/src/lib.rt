@@ -12,7 +12,6 @@ use held::filing::model_of;
 use held::filing::numbers_of;
 use held::filing::shape_for;
 use held::holds_model;
-use held::is_held;
 use held::no_model;
 use held::no_numbers;
 use model::format::MOST_ENTRIES;
@@ -110,7 +109,6 @@ impl Register {
     {
         let held = self.model;
         let delivery = self.delivery;
-        let another = is_held(delivery);
         let former = self.numbers;
         let found = delivery_outcome(held, file);
         if is_refused(found) {
@@ -122,7 +120,7 @@ impl Register {
         let n = sizes_of(model);
         let shape = shape_for(file, n);
         let numbers = numbers_of(model, file, n, shape);
-        let mark = mark_by(another, n.entries(), former, numbers);
+        let mark = mark_by(n, delivery, former, shape, numbers);
         Received {
             register: Register {
                 model: held,

@@ -22,6 +22,10 @@ use Rattle.register.proofs.Steps.{delivery-turned-away, delivery-filed}
 use Rattle.register.proofs.Register.file_delivery.Statement.{statement}
 use Rattle.register.proofs.Register.file_delivery.Tie as tie
 
+-- What was given, from past the test.
+abbrev start : tie.Else1 → tie.Start
+start c = c .before .before .before .before .before .before
+
 -- Past the test the delivery is not refused, so that it is accepted.
 not-turned-away : (c : tie.Else1) → isRefused (c .before .before .delivery-outcome .result) ≡ false
 not-turned-away c =
@@ -29,11 +33,11 @@ not-turned-away c =
     (λ e. sym (c .before .is-refused .ensures) ∙ e)
     (λ e. absurd (true≢false (rw e at (c .if1 .left))))
 
-passed : (c : tie.Else1) → let args = c .before .before .before .before .before .before .before .args in
+passed : (c : tie.Else1) → let args = start c .args in
     deliveryOutcome (args .self .model) (now (args .file)) ≡ Accepted
 passed c = sym (c .before .before .delivery-outcome .ensures) ∙ not-refused _ (not-turned-away c)
 
-accepted : (c : tie.Else1) → let args = c .before .before .before .before .before .before .before .args in
+accepted : (c : tie.Else1) → let args = start c .args in
     verdict (take (args .self .model .length) (args .self .model .bytes)) (now (args .file)) ≡ Accepted
 accepted c = delivery-passed _ _ (passed c) .1
 
@@ -41,16 +45,13 @@ accepted c = delivery-passed _ _ (passed c) .1
 bytes-size : (c : tie.Start) → length (c .args .self .model .bytes) ≡ mostBytes
 bytes-size c = sym (length-map (c .args .self .model .bytes) (λ v. v)) ∙ c .good .0 .1 .1 .0 .1 .1 .0 .1 .0 .1
 
-within : (c : tie.Else1) → let model = c .before .before .before .before .before .before .before .args .self .model in model .length ≤ length (model .bytes)
-within c = omega (arith, held-fits _ (delivery-passed _ _ (passed c) .0), bytes-size (c .before .before .before .before .before .before .before))
+within : (c : tie.Else1) → let model = start c .args .self .model in model .length ≤ length (model .bytes)
+within c = omega (arith, held-fits _ (delivery-passed _ _ (passed c) .0), bytes-size (start c))
 
 sized : (c : tie.After-sizes-of)
-    → let args = c .before .before .before .before .before .before .before .before .before .before .args in
+    → let args = start (c .before .before .before) .args in
     let n = c .sizes-of .result in Sized (take (args .self .model .length) (args .self .model .bytes)) (n .states) (n .symbols)
 sized c = sized-by-verdict _ (accepted (c .before .before .before)) (c .sizes-of .ensures .0)
-
-is-held-requires : tie.Need-is-held-requires
-is-held-requires c κs = search needs
 
 delivery-outcome-requires : tie.Need-delivery-outcome-requires
 delivery-outcome-requires c κs = search needs
@@ -89,31 +90,25 @@ numbers-of-requires c κs =
       accepted = is;
     }
 
-entries-requires : tie.Need-entries-requires
-entries-requires c κs = sized-fits (sized (c .before .before))
-
 mark-by-requires : tie.Need-mark-by-requires
-mark-by-requires c κs = search needs
+mark-by-requires c κs = sized-fits (sized (c .before .before))
 
 returns-2 : tie.Need-returns-2
 returns-2 c =
-    let entries = c .before in
-    let numbers = entries .before in
+    let numbers = c .before in
     let shape = numbers .before in
     let sizes = shape .before in
     let branch = sizes .before .before .before in
     let tested = branch .before in
-    let args = tested .before .before .before .before .before .before .args in
+    let args = start branch .args in
     rw (← delivery-filed (args .self) (now (args .file)) (tested .before .delivery-outcome .ensures) (not-turned-away branch)
     (shape .shape-for .ensures) (numbers .numbers-of .ensures)
-    (sizes .sizes-of .ensures .0) (entries .entries .ensures .0)
-    (tested .before .before .before .is-held .ensures) (c .mark-by .ensures)) refl
+    (sizes .sizes-of .ensures .0) (c .mark-by .ensures)) refl
 
 pub file-delivery-spec : {M : Type 1} → statement M
 file-delivery-spec =
     tie.close
     (tie.spec
-    is-held-requires
     delivery-outcome-requires
     is-refused-requires
     delivery-refused-requires
@@ -123,6 +118,5 @@ file-delivery-spec =
     sizes-of-requires
     shape-for-requires
     numbers-of-requires
-    entries-requires
     mark-by-requires
     returns-2)
