@@ -222,13 +222,24 @@ static void hold_values(uint32_t *numbers, const uint8_t *block, size_t count)
         numbers[e] = value(block, e);
 }
 
-/* Whether a delivery is held with the same uppers. */
-static bool has_same_uppers(const uint8_t *uppers, size_t entries)
+static bool holds_values(const uint32_t *numbers, const uint8_t *block, size_t count)
 {
     size_t e = 0;
-    while (held.has_delivery && e < entries && held.upper[e] == value(uppers, e))
+    while (e < count && numbers[e] == value(block, e))
         e++;
-    return held.has_delivery && e == entries;
+    return e == count;
+}
+
+/* Whether a delivery of the same shape and the same records is held. Kinds, states and symbols are those due in any that is accepted, so that the numbers tell. */
+static bool is_known(const struct model *m, const uint8_t *delivery, size_t len)
+{
+    struct shape shape = find_shape(m, delivery, len);
+    size_t means_from = shape.lowers ? 2 * m->entries : m->entries;
+    if (!held.has_delivery || held.lowers != shape.lowers || held.means != shape.means || !holds_values(held.upper, delivery, m->entries))
+        return false;
+    if (shape.lowers && !holds_values(held.lower, delivery + FIGURE_BYTES * m->entries, m->entries))
+        return false;
+    return !shape.means || holds_values(held.mean, delivery + FIGURE_BYTES * means_from, m->rows);
 }
 
 static void hold_delivery(const struct model *m, const uint8_t *delivery, size_t len)
@@ -305,7 +316,7 @@ static void file_delivery(const struct word *path)
         return;
     }
     find_model(&m);
-    bool known = has_same_uppers(delivery, m.entries);
+    bool known = is_known(&m, delivery, len);
     hold_delivery(&m, delivery, len);
     if (known)
         PUT("known\n");

@@ -241,6 +241,48 @@ def accepted_bases(rng, table):
             yield label, Figures(upper, rounds_from_zero(rng, table), mean)
 
 
+# Deliveries that are alike: pairs for one model that differ in a block, in the numbers of one or in a single number, which the mark has to tell apart (request A.3).
+
+def cut_to(shape, figures):
+    """The blocks of a shape alone."""
+    return figures._replace(lower=figures.lower if "L" in shape else None, mean=figures.mean if "R" in shape else None)
+
+
+def with_one(values, at, value):
+    changed = list(values)
+    changed[at] = max(0, value)
+    return changed
+
+
+def other_blocks(table, whole, least):
+    """The figures with one block changed, as a whole or in its first or last number, each by the letter of the block."""
+    upper, lower, mean = whole
+    higher, ends = [side >> 36 for side in checker.f(table, lower)], (0, -1)
+    for changed in (least.upper, *(with_one(upper, at, upper[at] + amount) for at in ends for amount in (-1, 1))):
+        yield "U", whole._replace(upper=changed)
+    for changed in (least.lower, higher, *(with_one(lower, at, higher[at]) for at in ends)):
+        yield "L", whole._replace(lower=changed)
+    for changed in (least.mean, *(with_one(mean, at, mean[at] + 1) for at in ends)) if mean else ():
+        yield "R", whole._replace(mean=changed)
+
+
+def alike(rng, table):
+    """Pairs of figures, a list for each part in which the two may differ: a block that one lacks, lowers of zeros that one lacks, nothing but the kind of the block after
+    the uppers, and the numbers of each block. Most of them pass, and some are equal."""
+    strict = least_uppers(table, 1, [0] * len(table.entries))
+    upper = strict and least_uppers(table, 1, [u + rng.randrange(1, 1 << rng.randint(1, 16)) if u else 0 for u in strict])
+    if upper is None:
+        return []
+    least = Figures(strict, [0] * len(upper), least_means(table, upper))
+    whole = Figures(upper, rounds_from_zero(rng, table), least.mean and [min(MEAN_TOP, 2 * mean) for mean in least.mean])
+    shapes = [shape for shape in checker.SHAPES if whole.mean or "R" not in shape]
+    zeros = [(cut_to(shape, whole._replace(lower=least.lower)), cut_to(shape.replace("L", ""), whole)) for shape in shapes if "L" in shape]
+    kinds = [(Figures(upper, least.mean, None), Figures(upper, None, least.mean))] if least.mean and table.states == 1 else []
+    others = [(letter, (cut_to(shape, whole), cut_to(shape, other))) for letter, other in other_blocks(table, whole, least) for shape in shapes if letter in shape]
+    numbers = [[pair for letter, pair in others if letter == block] for block in "ULR"]
+    return [list(itertools.combinations([cut_to(shape, whole) for shape in shapes], 2)), zeros, kinds, *numbers]
+
+
 # Changes of figures. Each takes (rng, table, figures) and hands back figures.
 
 def moved(rng, values, amount, among=None):

@@ -26,7 +26,7 @@ class Row(NamedTuple):
 
 
 # Registers that have to break the contracts (document 01, "Conditions of acceptance", 3); the mistakes of method; short runs (request A.1);
-# counter machines (request A.2); live marks, and reasons; desks.
+# counter machines (request A.2); marks (request A.3); live marks, and reasons; desks.
 TABLE = [
     Row("takes no model", "filing/takes_no_model", ("let found = wellformed::check(file); found",)),
     Row("takes no model", "wellformed/takes_no_model", ("    (0 < n) & ((n % RECORD_BYTES == 0) & (n <= 10240))",)),
@@ -43,8 +43,10 @@ TABLE = [
     Row("files nothing while reporting success", "held/files_nothing", ("length: file.len(),",)),
     Row("files nothing while reporting success: the numbers are the former delivery's", "register/keeps_the_former_numbers",
         ("numbers: numbers,",)),
+    # with the call that tells whether a delivery is held, and what comes with it in the proof
     Row("checks the first delivery after a model and waves later ones through", "register/waves_later_deliveries_through",
-        ("if is_refused(found) & true {",)),
+        ("let another = held::is_held(delivery); let former = self.numbers;", "if is_refused(found) & true {", "start c = c .before .before",
+         "(tie.spec (λ c κs. search needs)")),
     Row("marks a refused delivery, in definition and code", "register/refused_delivery_marked_known",
         ("turnedAway r o = record { outcome = o; register = r; mark = Absent }", "use Rattle.calls.specs.declared.Mark.the-variants.{Known, Absent}",
          "        mark: (Mark::Absent),")),
@@ -101,6 +103,20 @@ TABLE = [
     Row("promises a short run's chance of another exit", "history/short_chance_promised_of_another_exit",
         ("(let k = q in c ≡ chance (rulesOf b) n p z k) × (n ≤ 3)",)),
     Row("does not list 45 for short runs", "history/too_many_steps_not_listed", ("listed (within n p z q) = 40 ∷ (44 ∷ (45 ∷ []))",)),
+
+    Row("marks by the uppers alone", "filing/marks_by_the_uppers_alone", ("let former_lowers = (former.lowers);", "let former_means = (former.means);")),
+    Row("marks by the uppers alone, by definition", "history/known_by_the_uppers_alone",
+        ("use Prim.Native.Nat.{ℕ, _*_}", "sameAs s g (Of h) (Of k) d e = sameShape h k && (let n = recordsIn s g h in allTo (sameRecord d e) n)")),
+    Row("marks by the lowers for the uppers", "filing/marks_by_the_lowers", ("let former_uppers = (former.uppers);", "let uppers = (numbers.uppers);")),
+    Row("compares no lowers", "filing/lowers_not_compared", ("let former_lowers = (former.lowers);",)),
+    Row("compares no mean steps", "filing/means_not_compared", ("let means = (numbers.means);",)),
+    Row("compares no shapes", "held/shapes_not_compared", ("HeldDelivery::Of(former) => shape::same_shape((former), shape),",)),
+    Row("compares no shapes, by definition", "history/known_whatever_the_shape",
+        ("sameAs s g (Of h) (Of k) d e = (let t = sameShape h k in t) && allTo (sameRecord d e) (recordsIn s g h)",)),
+    Row("compares shapes by their lowers alone", "delivery/shapes_compared_by_lowers_alone",
+        ("    (has_lowers(a) == has_lowers(b)) & (has_means((a)) == has_means(b))",)),
+    Row("promises nothing of a delivery that is known", "history/known_promised_of_nothing",
+        ("(Bytes e → Bytes d → let x = d in e ≡ x)", "λ bytes bytes′. same-bytes _ _ d right bytes bytes′ .0 (by .same))")),
 
     Row("a move up pushes one symbol, by definition", "onecounter/up_pushes_one_symbol", ("pushFor up = let pushed = two 0 0 in pushed",)),
     # So does this one with the number that is stored: `shift(file, i) / 1` is refused too.

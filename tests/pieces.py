@@ -272,10 +272,12 @@ def as_a_person(room, rng):
 def files_change(room, rng):
     """Files are read anew at each filing: they go missing, become others, become folders; what is held stays."""
     model, delivery, counter = (room.folder.files[name] for name in (b"w.tab", b"w.cer", b"q.tab"))
+    other = delivery[:-4] + (257).to_bytes(4, "little")  # other mean steps under the same uppers
     steps = ((b"m", None, b"model m", "refused 10 0 0"), (b"m", model, b"model m", "accepted"), (b"m", None, b"upper 0 0 0", "refused 42 0 0"),
              (b"d", None, b"delivery d", "refused 20 0 0"), (b"d", delivery, b"delivery d", "new"), (b"d", None, b"margin", "value 45875"),
-             (b"d", None, b"delivery d", "refused 20 0 0"), (b"d", None, b"margin", "value 45875"), (b"d", delivery[:32], b"delivery d", "known"),
-             (b"d", delivery, b"margin", "refused 43 0 0"), (b"d", delivery, b"delivery d", "known"), (b"d", delivery, b"margin", "value 45875"),
+             (b"d", None, b"delivery d", "refused 20 0 0"), (b"d", None, b"margin", "value 45875"), (b"d", delivery, b"delivery d", "known"),
+             (b"d", delivery[:32], b"delivery d", "new"), (b"d", delivery, b"margin", "refused 43 0 0"), (b"d", delivery, b"delivery d", "new"),
+             (b"d", other, b"delivery d", "new"), (b"d", delivery, b"steps 1 0", "value 257"), (b"d", delivery, b"delivery d", "new"), (b"d", delivery, b"margin", "value 45875"),
              (b"m", None, b"clear", "cleared"), (b"m", model[:-1], b"model m", "refused 10 0 0"), (b"m", model, b"model m", "accepted"),
              (b"c", counter, b"counter c", "refused 41 0 0"), (b"c", None, b"clear", "cleared"), (b"c", None, b"counter c", "refused 46 0 0"),
              (b"c", counter[:-1], b"counter c", "refused 46 0 0"), (b"c", counter[8:], b"counter c", "refused 48 0 0"), (b"c", counter + counter[:8], b"counter c", "refused 47 6 0"),

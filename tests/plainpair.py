@@ -1,10 +1,11 @@
 """A desk around the plain pair of document 01: the last accepted model since the last clearing, and the last delivery accepted for it, as bytes. Chances of
-short runs are those of request A.1, and counter files those of request A.2, of which the model that they make is held.
+short runs are those of request A.1, and counter files those of request A.2, of which the model that they make is held. A delivery's mark is that of request A.3.
 
 Reads calls as lines on standard input and prints the replies. Each method is one rule, so that tests/wrongdesks.py can change one at a time.
 """
 import os
 import stat
+import struct
 import sys
 from functools import lru_cache
 
@@ -150,12 +151,19 @@ class PlainPair:
             raise Refused(*refusal)
 
     def mark_of(self, delivery):
-        """Known if a delivery is held whose U block is the same."""
-        is_known = self.delivery is not None and self.uppers_in(self.delivery) == self.uppers_in(delivery)
-        return "known" if is_known else "new"
+        """Known if a delivery is held that is the same, else new."""
+        return "known" if self.delivery is not None and self.is_same(self.delivery, delivery) else "new"
 
-    def uppers_in(self, delivery):
-        return delivery[:8 * len(self.table().entries)]
+    def is_same(self, held, delivery):
+        """The shape and every record are equal."""
+        return self.shape_in(held) == self.shape_in(delivery) and self.records_in(held) == self.records_in(delivery)
+
+    def shape_in(self, delivery):
+        return checker.shape_of(self.table(), delivery)
+
+    def records_in(self, delivery):
+        """Kind, p, Z, q and value of each record."""
+        return list(struct.iter_unpack("<4BI", delivery))
 
     def hold_model(self, model):
         self.model = model

@@ -10,7 +10,7 @@ import subprocess
 import sys
 import tempfile
 import time
-from collections import Counter
+from collections import Counter, namedtuple
 from pathlib import Path
 
 import checker
@@ -18,6 +18,7 @@ import generate
 import plainpair
 
 SCRIPTS_OF_A_FOLDER = 8
+PAIRS_OF_A_PART = 3  # of deliveries that differ in one part, at the most, for each theme
 LINES = (5, 60)  # of a script, the fewest and the most
 ENOUGH = 1000  # scripts from which on every kind has to occur
 FEWEST = 5  # times, at least, that every reason and every kind of line must then occur
@@ -25,6 +26,15 @@ MOST_SHOWN = 5  # mismatches shown before giving up
 REASONS = (*range(10, 16), *range(20, 28), *range(40, 49))
 REPLIES = ("cleared", "accepted", "known", "new", "value", "refused", "unclear", "none")
 FILED = tuple("%s %s" % (mark, shape) for mark in ("known", "new") for shape in checker.SHAPES)
+# What a delivery has in common with the one before, each with the mark that request A.3 gives it; beside a counter file, whatever the shapes, what stands before the comma.
+LIKE = ("known: the same again", "known: the same after a refusal", "new: the same after another", "new: the same after a clearing",
+        *("new: other %s alone, %s" % (block, shape) for block, letter in (("uppers", "U"), ("lowers", "L"), ("mean steps", "R")) for shape in checker.SHAPES if letter in shape),
+        *("new: the %s record alone, %s" % (place, shape) for place in ("first", "last") for shape in checker.SHAPES),
+        "new: the first record of each block, and not all", "new: the last record of each block, and not all",
+        *("new: the blocks that both have, %s after %s" % shapes for shapes in itertools.permutations(checker.SHAPES, 2)),
+        *("new: zeros for no lowers, %s after %s" % shapes for shapes in (("U", "UL"), ("UL", "U"), ("UR", "ULR"), ("ULR", "UR"))),
+        "new: the numbers and not the kinds, UL after UR", "new: the numbers and not the kinds, UR after UL")
+LIKE_BESIDE_COUNTERS = tuple(dict.fromkeys("beside a counter, " + kind.split(", ")[0] for kind in LIKE))
 SHORT = ("within: value above 0", "within: value 0", "within: 40", "within: 44", "within: 45", "within: 40 before 45", "within: 44 before 45")
 COUNTERS = ("counter: accepted", "counter: 41 beside a model", "counter: 41 beside a counter", "model: 41 beside a counter", "counter: 46", "counter: 47 at 0", "counter: 47 further on",
             "counter: 48 at 0", "counter: 48 further on", "beside a counter: new", "beside a counter: known", "beside a counter: value", "beside a counter: 24")
@@ -39,12 +49,12 @@ SHARED_MEMORY = Path("/dev/shm")
 # Folders of files.
 
 class Folder:
-    """Files by name: those that are accepted as a model and those as a counter file, each a theme (the call's word, the name) with the deliveries made for it and
-    the accepted ones among these; and other files."""
+    """Files by name: those that are accepted as a model and those as a counter file, each a theme (the call's word, the name) with the deliveries made for it, the
+    accepted ones among these, and lists of pairs of accepted ones that are alike; and other files."""
 
     def __init__(self, cases, counters=()):
         self.files, self.names, self.directories = {}, {}, {b"folder", b"sub"}
-        self.themes, self.others, self.deliveries, self.certificates = [], {b"model": [], b"counter": []}, {}, {}
+        self.themes, self.others, self.deliveries, self.certificates, self.alike = [], {b"model": [], b"counter": []}, {}, {}, {}
         for model, delivery in cases:
             self.add_case(b"model", model, model, delivery)
         for counter, delivery in counters:
@@ -69,6 +79,18 @@ class Folder:
             self.deliveries.setdefault(theme, []).append(self.name_of(delivery))
         if checker.check_delivery(model, delivery) == checker.ACCEPTED:
             self.certificates.setdefault(theme, []).append(self.name_of(delivery))
+
+    def add_alike(self, theme, pairs):
+        """A list of pairs of figures for a theme, of which those are kept that differ and are both accepted."""
+        model, table = self.model(theme), self.table(theme)
+        made = [[generate.delivery_file(table, figures) for figures in pair] for pair in pairs]
+        kept = [(one, other) for one, other in made if one != other and all(plainpair.verdict(model, file) == checker.ACCEPTED for file in (one, other))]
+        if kept:
+            self.alike.setdefault(theme, []).append([(self.name_of(one), self.name_of(other)) for one, other in kept])
+
+    def refused(self, theme):
+        """The names of deliveries that are refused beside a theme."""
+        return [name for name in self.deliveries[theme] if name not in self.certificates.get(theme, [])] or [b"gone"]
 
     def models(self):
         """The names of the accepted models."""
@@ -150,6 +172,15 @@ def far_cases():
 
 
 def make_folder(rng, number):
+    """A folder of files, each of its themes with pairs of deliveries that are alike."""
+    folder = plain_folder(rng, number)
+    for theme in folder.themes:
+        for pairs in generate.alike(rng, folder.table(theme)):
+            folder.add_alike(theme, rng.sample(pairs, min(len(pairs), PAIRS_OF_A_PART)))
+    return folder
+
+
+def plain_folder(rng, number):
     """Folder 0 has the edges of document 01 and of request A.2, folder 1 the far ends, each other one two models and two counter files with deliveries and changes of them."""
     if number == 0:
         queue, counters = [(generate.QUEUE, generate.queue_delivery())], [(counter, b"") for _, counter, _ in generate.counter_edges()]
@@ -319,6 +350,17 @@ def asked_again(rng, lines):
     return rng.sample(asked, min(len(asked), rng.choice((0, 2, 4))))
 
 
+def filed_alike(rng, folder, theme):
+    """Two deliveries that are alike, one after the other, or one of them again: at once, after a refusal, after the other or after a clearing. None where a theme has no such."""
+    if theme not in folder.alike:
+        return []
+    one, other = rng.sample(rng.choice(rng.choice(folder.alike[theme])), 2)
+    refused, cleared = rng.choice(folder.refused(theme)), None
+    forms = ((one, other),) * 6 + ((one, one), (one, refused, one), (one, refused, other), (one, other, one), (one, cleared, one))
+    filed = ([b"clear", b" ".join(theme)] if name is cleared else [b"delivery " + path_of(rng, name)] for name in rng.choice(forms))
+    return list(itertools.chain.from_iterable(filed))
+
+
 def chosen_theme(rng, folder):
     """A model or, every third time, a counter file."""
     word = rng.choice((b"model", b"model", b"counter"))
@@ -338,6 +380,8 @@ def make_script(rng, folder):
         if line == b"clear":
             theme = chosen_theme(rng, folder)
             lines += opening(rng, folder, theme) + asked_again(rng, lines)
+        if rng.randrange(8) == 0:
+            lines += filed_alike(rng, folder, theme)
     return b"\n".join(lines[:due]) + b"\n" * (rng.randrange(4) > 0), kinds
 
 
@@ -362,16 +406,28 @@ def folders_of_scripts(seed, count):
 
 # The comparison.
 
+# A delivery that was accepted: its mark, the call that filed its model, the model, the delivery held before, itself, and whether one was refused since the last.
+Filed = namedtuple("Filed", "mark word model held delivery refused")
+
+
 def expected(folder, script):
-    """(lines with their replies, None for no reply; the warnings; the marks of deliveries that were filed, each with its shape)."""
-    answered, warnings, filed = [], [], []
-    desk = plainpair.Desk(folder.reader(warnings))
-    for line in desk.lines_of(script):
-        reply = desk.reply_to_line(line)
-        answered.append((line, reply))
-        if reply in ("known", "new"):
-            filed.append("%s %s" % (reply, checker.shape_of(desk.table(), desk.delivery)))
+    """(lines with their replies, None for no reply; the warnings; the deliveries that were accepted)."""
+    warnings = []
+    answered, filed = answered_by(plainpair.Desk(folder.reader(warnings)), script)
     return answered, b"".join(warnings), filed
+
+
+def answered_by(desk, script):
+    """The same without the warnings, of any desk."""
+    answered, filed, word, refused = [], [], None, False
+    for line in desk.lines_of(script):
+        held, reply = desk.delivery, desk.reply_to_line(line)
+        answered.append((line, reply))
+        word = line.split(b" ")[0] if reply == "accepted" else word
+        if reply in ("known", "new"):
+            filed.append(Filed(reply, word, desk.model, held, desk.delivery, refused))
+        refused = reply not in ("known", "new") and (refused or (reply or "").startswith("refused 2"))
+    return answered, filed
 
 
 def printed(answered):
@@ -428,6 +484,61 @@ def counter_kinds(answered):
         held = None if answer == "cleared" else held
 
 
+def numbers_of(figures):
+    return [number for block in figures if block is not None for number in block]
+
+
+def likenesses(model, held, delivery):
+    """What two different deliveries for a model have in common."""
+    shapes = tuple(checker.shape_of(checker.table_of(model), file) for file in (delivery, held))
+    new, old = (plainpair.figures_of(model, file) for file in (delivery, held))
+    if shapes[0] == shapes[1]:
+        yield from likenesses_in_shape(shapes[0], new, old)
+        return
+    if all(None in pair or pair[0] == pair[1] for pair in zip(new, old)):
+        yield "the blocks that both have, %s after %s" % shapes
+    if new.upper == old.upper and new.mean == old.mean and not any(new.lower or old.lower):
+        yield "zeros for no lowers, %s after %s" % shapes
+    if numbers_of(new) == numbers_of(old):
+        yield "the numbers and not the kinds, %s after %s" % shapes
+
+
+def likenesses_in_shape(shape, new, old):
+    """The same where both are of one shape."""
+    blocks = [(name, *pair) for name, *pair in zip(("uppers", "lowers", "mean steps"), new, old) if pair[0] is not None]
+    other = [name for name, one, before in blocks if one != before]
+    if len(other) == 1:
+        yield "other %s alone, %s" % (other[0], shape)
+    differ = [one != before for _, *block in blocks for one, before in zip(*block)]
+    if sum(differ) == 1 and len(differ) > 1:
+        yield from ("the %s record alone, %s" % (place, shape) for place, at in (("first", 0), ("last", -1)) if differ[at])
+    for place, at in (("first", 0), ("last", -1)):
+        if all(one[at] == before[at] for _, one, before in blocks):
+            yield "the %s record of each block, and not all" % place
+
+
+def history_kinds(filed):
+    """Of each accepted delivery, with the two that were accepted before it, how it came after one that is the same."""
+    for earlier, last, one in zip([None, None, *filed], [None, *filed], filed):
+        if one.held == one.delivery:
+            yield one, "the same after a refusal" if one.refused else "the same again"
+        elif one.held is None and last is not None and (last.model, last.delivery) == (one.model, one.delivery):
+            yield one, "the same after a clearing"
+        elif one.held is not None and earlier is not None and last.held == earlier.delivery == one.delivery:
+            yield one, "the same after another"
+
+
+def filed_kinds(filed):
+    """The kinds that accepted deliveries count for: the mark with the shape, and with what one has in common with those before it."""
+    yield from ("%s %s" % (one.mark, checker.shape_of(checker.table_of(one.model), one.delivery)) for one in filed)
+    between = ((one, likeness) for one in filed if one.held not in (None, one.delivery) for likeness in likenesses(one.model, one.held, one.delivery))
+    for one, likeness in itertools.chain(history_kinds(filed), between):
+        kind = "%s: %s" % (one.mark, likeness)
+        yield kind
+        if one.word == b"counter":
+            yield "beside a counter, " + kind.split(", ")[0]
+
+
 def count_kinds(kinds, answered, line_kinds):
     """Counts replies and reasons, and lines that are no call, which the pair must have found to be none."""
     for _, reply in answered:
@@ -451,7 +562,7 @@ def compare_folder(program, number, folder, scripts, kinds):
         for at, (script, line_kinds) in enumerate(scripts):
             answered, warnings, filed = expected(folder, script)
             count_kinds(kinds, answered, line_kinds)
-            kinds.update(filed)
+            kinds.update(filed_kinds(filed))
             wrong += not agrees(program, root, "folder %d, script %d" % (number, at), script, answered, warnings)
         joined = b"\n".join(script for script, _ in scripts)
         wrong += not agrees(program, root, "folder %d, all scripts" % number, joined, *expected(folder, joined)[:2])
@@ -460,7 +571,7 @@ def compare_folder(program, number, folder, scripts, kinds):
 
 def show_kinds(kinds, count):
     """Prints how often each kind occurred; exits when one is too rare, if there were enough scripts for it."""
-    due = [*REASONS, *REPLIES, *FILED, *SHORT, *COUNTERS, *UNCLEAR, *SILENT]
+    due = [*REASONS, *REPLIES, *FILED, *LIKE, *LIKE_BESIDE_COUNTERS, *SHORT, *COUNTERS, *UNCLEAR, *SILENT]
     print("; ".join("%s: %d" % (kind, kinds[kind]) for kind in due))
     rare = [kind for kind in due if kinds[kind] < FEWEST]
     if count < ENOUGH:

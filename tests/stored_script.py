@@ -3,6 +3,7 @@
 With --check it writes nothing and stops if a stored file is not what it would write. --to FOLDER has them in another folder than crates/desk.
 """
 import argparse
+import itertools
 import posixpath
 import sys
 from pathlib import Path
@@ -17,6 +18,11 @@ CRATE = Path(__file__).resolve().parent.parent / "crates" / "desk"
 QUESTIONS = ["upper 0 0 0", "lower 0 0 0", "steps 0 0", "margin", "live 0 0 0", "within 3 0 0 0"]
 STEPS = range(5)  # that a short chance is asked for: 0 to 3, and 4, which is refused
 REPLIES = {"cleared", "accepted", "known", "new", "value", "refused", "unclear", None}
+SHAPES_OF_W = {"w-u": {"lower": None, "mean": None}, "w-ul": {"mean": None}, "w-ur": {"lower": None}, "w": {}}  # the four shapes, by what each lacks
+OTHERS = {"least": {"upper": [655360, 466034, 0, 1179648]}, "first": {"upper": [655361, 524288, 0, 1179648]}, "lowers": {"lower": [524288, 262144, 0, 1048576]},
+          "zeros": {"lower": [0, 0, 0, 0]}, "486": {"mean": [486, 256]}}  # a block of W that is accepted too
+# Another last record of each shape.
+LAST = {"w-u": {"upper": [655360, 524288, 0, 1179649]}, "w-ul": {"lower": [524288, 393216, 0, 1048575]}, "w-ur": {"mean": [512, 257]}, "w": {"mean": [512, 257]}}
 
 
 # The files.
@@ -62,12 +68,20 @@ def counter_files():
     return {**accepted, **wrong, **others}
 
 
+def others_of_w():
+    """(a shape's name, {the name of another delivery of this shape: its blocks}), each with one block that is not W's."""
+    for name, lacks in SHAPES_OF_W.items():
+        yield name, {"%s-%s" % (name, label): {**lacks, **block} for label, block in {**OTHERS, "last": LAST[name]}.items() if not set(block) & set(lacks)}
+
+
 def delivery_files():
     filed, one, large = of_w(), generate.one_row_model(49152, 16384), generate.largest_certificate()
+    of_shapes = {name + ".cer": of_w(**lacks) for name, lacks in SHAPES_OF_W.items()}
+    others = {other + ".cer": of_w(**blocks) for _, made in others_of_w() for other, blocks in made.items()}
     accepted = {
-        "w.cer": filed, "w-u.cer": of_w(lower=None, mean=None), "w-ul.cer": of_w(mean=None), "w-ur.cer": of_w(lower=None),
-        "w-least.cer": of_w(upper=[655360, 466034, 0, 1179648]), "w-486.cer": of_w(mean=[486, 256]),
-        "one-ul.cer": certificate(one, [1052672], [1048574]), "one-ur.cer": certificate(one, [1048576], mean=[512]), "large.cer": large,
+        **of_shapes, **others, "one-ul.cer": certificate(one, [1052672], [1048574]), "one-ur.cer": certificate(one, [1048576], mean=[512]),
+        "one-ul-514.cer": certificate(one, [1052672], [514]), "one-ur-514.cer": certificate(one, [1052672], mean=[514]),
+        "large.cer": large, "large-289.cer": generate.largest_certificate(mean=289),
     }
     refused = {
         "20.cer": filed[:-8], "20-longer.cer": filed + b"\0", "21.cer": filed[:32] + b"U" + filed[33:], "22.cer": of_w(upper=[2097153, 524288, 0, 1179648]),
@@ -119,7 +133,7 @@ def counters():
     yield from ("within %d %d 0 %d" % (n, u, v) for n in STEPS for u in range(2) for v in range(2))
     yield from ("live 0 0 0", "live 1 0 0", "live 2 0 0", "live 0 1 0", "live 0 0 2", "within 3 0 1 0", "within 3 2 0 0", "delivery w.cer", "delivery queue-24.cer", "upper 0 0 0")
     yield from ("delivery queue.cer", *("%s %d 0 %d" % (name, u, v) for name in ("lower", "upper") for u in range(2) for v in range(2)), "steps 0 0", "steps 1 0", "margin")
-    yield from ("delivery queue-24.cer", "margin", "delivery queue-ul.cer", "steps 0 0", "margin", "delivery queue.cer", "counter queue.ctr", "margin")
+    yield from ("delivery queue-24.cer", "margin", "delivery queue.cer", "delivery queue-ul.cer", "steps 0 0", "margin", "delivery queue.cer", "counter queue.ctr", "margin")
 
 
 def counters_as_models():
@@ -149,10 +163,27 @@ def all_of_w():
 
 
 def marks_and_shapes():
-    yield "# The four shapes, of which those with the same uppers are known; 44 comes before 43."
-    for name in ("w-u.cer", "w-ul.cer", "w-ur.cer", "w.cer", "w-least.cer", "w-486.cer"):
-        yield from ("delivery %s" % name, *QUESTIONS)
+    yield "# The four shapes with the same uppers: each is new after another, and known when it comes again (request A.3); 44 comes before 43."
+    for name in SHAPES_OF_W:
+        yield from ("delivery %s.cer" % name, *QUESTIONS, "delivery %s.cer" % name)
     yield from ("delivery w-u.cer", "lower 2 0 0", "lower 0 1 0", "lower 0 0 2", "steps 0 1", "steps 2 0", "delivery w-u.cer", "delivery w.cer")
+    yield "# Every shape after every other."
+    yield from ("delivery %s.cer" % name for pair in itertools.permutations(SHAPES_OF_W, 2) for name in pair)
+
+
+def marks_and_records():
+    yield "# The same shape with other uppers, lowers or mean steps, with another first or last record: new, and what is asked is of the new one."
+    asked = ("upper 0 0 0", "upper 0 0 1", "upper 1 0 1", "lower 0 0 1", "lower 1 0 1", "steps 0 0", "steps 1 0", "margin")
+    for name, other in ((name, other) for name, made in others_of_w() for other in made):
+        yield from ("delivery %s.cer" % name, "delivery %s.cer" % other, *asked, "delivery %s.cer" % other, "delivery %s.cer" % name)
+    yield "# Lowers of zeros, and no lowers: each is new after the other."
+    yield from ("delivery %s.cer" % name for pair in (("w-u", "w-ul-zeros"), ("w-ur", "w-zeros")) for name in (*pair, *pair))
+
+
+def marks_and_calls():
+    yield "# After refused deliveries and models, questions and lines that are no call, the held delivery is known; after another delivery it is new."
+    yield from ("delivery w.cer", "delivery w.cer", "delivery 24.cer", "delivery w.cer", "delivery gone", "delivery 20.cer", "model w.tab", "counter queue.ctr", "margin", "known")
+    yield from ("delivery w.cer", "delivery 27.cer", "delivery w-486.cer", "delivery w.cer", "delivery w-u.cer", "delivery w-ur.cer", "delivery w.cer", "delivery ./w.cer")
 
 
 def clearing():
@@ -205,6 +236,7 @@ def lengths():
 
 def largest():
     yield from ("# The largest files.", "clear", "model longer.tab", "model large.tab", "delivery w.cer", "delivery longer.cer", "delivery large.cer", "delivery large.cer", "margin")
+    yield from ("delivery large-289.cer", "steps 7 15", "delivery large-289.cer", "delivery large.cer")
     yield from ("upper 7 15 7", "lower 7 15 7", "steps 7 15", "live 7 15 7", "upper 0 0 0", "upper 7 0 0", "upper 0 15 0", "upper 0 0 7", "steps 7 0", "steps 0 15")
     yield from ("upper 8 0 0", "upper 0 16 0", "upper 0 0 8", "lower 7 15 8", "steps 8 0", "steps 0 16", "live 8 15 7", "live 7 16 7")
     yield from ("within 3 7 15 7", "within 2 7 15 7", "within 1 7 15 7", "within 3 7 15 0", "within 3 0 0 0", "within 3 8 15 7", "within 3 7 16 7", "within 3 7 15 8", "within 4 7 15 7")
@@ -212,11 +244,15 @@ def largest():
 
 def one_state():
     yield from ("# One state: the kind byte tells UL from UR. The last line has no newline.", "clear", "model one.tab", "delivery w.cer", "delivery one-ul.cer", *QUESTIONS)
-    yield from ("delivery one-ur.cer", *QUESTIONS, "upper 1 0 0", "live 0 0 1", "steps 0 1", "delivery one-ul.cer", "clear", "model one.tab", "live 0 0 0")
+    yield from ("delivery one-ur.cer", *QUESTIONS, "upper 1 0 0", "live 0 0 1", "steps 0 1", "delivery one-ul.cer")
+    yield "# The same numbers as UL and as UR: each is new after the other."
+    for name in ("one-ul-514.cer", "one-ur-514.cer") * 2:
+        yield from ("delivery %s" % name, *QUESTIONS, "delivery %s" % name)
+    yield from ("clear", "model one.tab", "live 0 0 0")
 
 
-GROUPS = (empty_register, refused_models, counters, counters_as_models, model_alone, short_chances, refused_deliveries, all_of_w, marks_and_shapes, clearing, numbers, paths,
-          unclear_words, unclear_bytes, lengths, short_chances_of_pairs, largest, one_state)
+GROUPS = (empty_register, refused_models, counters, counters_as_models, model_alone, short_chances, refused_deliveries, all_of_w, marks_and_shapes, marks_and_records,
+          marks_and_calls, clearing, numbers, paths, unclear_words, unclear_bytes, lengths, short_chances_of_pairs, largest, one_state)
 
 
 def script():
@@ -231,11 +267,11 @@ def desk_over(files):
     return plainpair.Desk(lambda path, most: named.get(posixpath.normpath(path), b"")[:most])
 
 
-def check_complete(replies):
-    """Stops unless each kind of reply and each reason occurs."""
+def check_complete(replies, filed):
+    """Stops unless each kind of reply and each reason occurs, and each mark with each likeness of two deliveries."""
     words = {reply and reply.split()[0] for reply in replies}
     numbers = {int(reply.split()[1]) for reply in replies if reply and reply.startswith("refused")}
-    missing = (REPLIES - words) | (set(scripts.REASONS) - numbers)
+    missing = (REPLIES - words) | (set(scripts.REASONS) - numbers) | ({*scripts.FILED, *scripts.LIKE} - set(scripts.filed_kinds(filed)))
     if missing:
         sys.exit("the stored script has no reply: %s" % sorted(map(str, missing)))
 
@@ -243,9 +279,9 @@ def check_complete(replies):
 def made_files():
     """Path under crates/desk/ -> bytes."""
     files, text = {**model_files(), **counter_files(), **delivery_files()}, script()
-    desk = desk_over(files)
-    replies = [desk.reply_to_line(line) for line in desk.lines_of(text)]
-    check_complete(replies)
+    answered, filed = scripts.answered_by(desk_over(files), text)
+    replies = [reply for _, reply in answered]
+    check_complete(replies, filed)
     made = {"data/" + name: data for name, data in files.items()}
     made["stdin"] = text
     made["stdout"] = "".join(reply + "\n" for reply in replies if reply is not None).encode()

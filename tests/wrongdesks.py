@@ -122,18 +122,6 @@ def filed_again_clears(self, path):
     return Desk.file_model(self, path)
 
 
-def known_by_any(self, delivery):
-    """Known if any delivery since the start had the same uppers."""
-    seen = self.__dict__.setdefault("seen", set())
-    mark = "known" if self.uppers_in(delivery) in seen else "new"
-    seen.add(self.uppers_in(delivery))
-    return mark
-
-
-def known_if_any_held(self, delivery):
-    return "new" if self.delivery is None else "known"
-
-
 def live_needs_delivery(self, p, z, q):
     self.needs_model()
     self.needs_delivery()
@@ -167,6 +155,138 @@ def refusal_cut(**zeros):
             words[2], words[3] = zeros.get("place", words[2]), zeros.get("shortfall", words[3])
         return " ".join(words)
     return reply_to
+
+
+# The mark of a delivery (request A.3).
+
+def known_by(part):
+    """Known if a delivery is held of which this part is the same."""
+    return wrong(is_same=lambda self, held, delivery: part(self, held) == part(self, delivery))
+
+
+def numbers(self, delivery):
+    return [value for *_, value in self.records_in(delivery)]
+
+
+def uppers(self, delivery):
+    return self.records_in(delivery)[:len(self.table().entries)]
+
+
+def blocks(self, delivery):
+    """The records of each kind, by the kind."""
+    return [[record for record in self.records_in(delivery) if record[0] == kind] for kind in checker.SHAPES["ULR"]]
+
+
+def without_block(kind):
+    """The shape, and the records of the other kinds."""
+    return lambda self, delivery: (self.shape_in(delivery), [record for record in self.records_in(delivery) if record[0] != kind])
+
+
+def of_each_block(part):
+    """The shape, and some of the records of each block."""
+    return lambda self, delivery: (self.shape_in(delivery), list(map(part, blocks(self, delivery))))
+
+
+def zeros_for_none(self, delivery):
+    """The numbers of all three blocks, zeros where there is none."""
+    upper, lower, mean = plainpair.figures_of(self.model, delivery)
+    return upper, lower or [0] * len(upper), mean or [0] * len(self.table().rows)
+
+
+def known_by_common(self, held, delivery):
+    """By the blocks that both have."""
+    return all(one == other for one, other in zip(blocks(self, held), blocks(self, delivery)) if one and other)
+
+
+def starts_so(self, held, delivery):
+    return delivery.startswith(held)
+
+
+def known_by_any(self, delivery):
+    """Known if any delivery that was ever accepted is the same."""
+    seen = self.__dict__.setdefault("seen", set())
+    mark = "known" if delivery in seen else "new"
+    seen.add(delivery)
+    return mark
+
+
+def known_by_last(self, delivery):
+    """Known if the delivery accepted last is the same, held or not."""
+    last, self.last = self.__dict__.get("last"), delivery
+    return "known" if last == delivery else "new"
+
+
+def known_by_first(self, delivery):
+    """Known if the delivery accepted first is the same, though it may have been replaced."""
+    first = self.__dict__.setdefault("first_held", delivery)
+    return "known" if self.delivery is not None and first == delivery else "new"
+
+
+def known_by_judged(self, delivery):
+    """Known if the delivery that was judged before is the same."""
+    return "known" if self.before == delivery else "new"
+
+
+def judged_and_kept(self, delivery):
+    """Keeps what it judges, also where it refuses it."""
+    self.before, self.last = self.__dict__.get("last"), delivery
+    Desk.judge_delivery(self, delivery)
+
+
+def forgets(name):
+    """A clearing that drops what is kept under this name too."""
+    def clear(self):
+        self.__dict__.pop(name, None)
+        return Desk.clear(self)
+    return clear
+
+
+def known_if_any_held(self, delivery):
+    return "new" if self.delivery is None else "known"
+
+
+def same_uppers_not_held(self, delivery):
+    """Keeps the held delivery where the uppers are the same."""
+    if self.delivery is None or uppers(self, self.delivery) != uppers(self, delivery):
+        self.delivery = delivery
+
+
+def counter_by_uppers(self, held, delivery):
+    """By the uppers alone while the model that a counter file makes is held."""
+    return uppers(self, held) == uppers(self, delivery) if self.__dict__.get("counts") else Desk.is_same(self, held, delivery)
+
+
+WRONG_MARKS = {
+    "known for new": wrong(mark_of=lambda self, delivery: "known"),
+    "new for known": wrong(mark_of=lambda self, delivery: "new"),
+    "known if any delivery is held": wrong(mark_of=known_if_any_held),
+    "known by the uppers alone, as before A.3": known_by(uppers),
+    "known by the shape": known_by(Desk.shape_in),
+    "known by the length": known_by(lambda self, delivery: len(delivery)),
+    "known by the numbers, whatever the kinds": known_by(numbers),
+    "known by the numbers, with zeros for a missing block": known_by(zeros_for_none),
+    "known with other uppers": known_by(without_block(checker.UPPER)),
+    "known with other lowers": known_by(without_block(checker.LOWER)),
+    "known with other mean steps": known_by(without_block(checker.MEAN)),
+    "known by the blocks that both have": wrong(is_same=known_by_common),
+    "known where it starts as the held one": wrong(is_same=starts_so),
+    "known where the held one starts so": wrong(is_same=lambda self, held, delivery: starts_so(self, delivery, held)),
+    "known by the first upper": known_by(lambda self, delivery: self.records_in(delivery)[:1]),
+    "known by all records but the first": known_by(lambda self, delivery: (self.shape_in(delivery), self.records_in(delivery)[1:])),
+    "known by all records but the last": known_by(lambda self, delivery: (self.shape_in(delivery), self.records_in(delivery)[:-1])),
+    "known by the first record of each block": known_by(of_each_block(lambda block: block[:1])),
+    "known by the last record of each block": known_by(of_each_block(lambda block: block[-1:])),
+    "known by all but the first record of each block": known_by(of_each_block(lambda block: block[1:])),
+    "known by all but the last record of each block": known_by(of_each_block(lambda block: block[:-1])),
+    "known by a delivery that is held no more": wrong(mark_of=known_by_any),
+    "known by one that another has replaced": wrong(mark_of=known_by_any, clear=forgets("seen")),
+    "known by the one that was held before a clearing": wrong(mark_of=known_by_last),
+    "known by the first since the clearing": wrong(mark_of=known_by_first, clear=forgets("first_held")),
+    "a refused delivery remembered for the mark": wrong(judge_delivery=judged_and_kept, mark_of=known_by_judged, clear=forgets("last")),
+    "a delivery with the held uppers not held": wrong(hold_delivery=same_uppers_not_held),
+    "beside a counter file, known by the uppers alone": wrong(
+        file_counter=lambda self, path: setattr(self, "counts", Desk.file_counter(self, path)) or "accepted", clear=forgets("counts"), is_same=counter_by_uppers),
+}
 
 
 # Chances of short runs (request A.1).
@@ -461,12 +581,7 @@ WRONG = {
     "clear keeps the delivery": wrong(clear=clear_keeps_delivery),
     "clear keeps the model": wrong(clear=clear_keeps_model),
     "clear refused when empty": wrong(clear=clear_refused_when_empty),
-    "known for new": wrong(mark_of=lambda self, delivery: "known"),
-    "new for known": wrong(mark_of=lambda self, delivery: "new"),
-    "known by the whole file": wrong(uppers_in=lambda self, delivery: delivery),
-    "known by the first upper": wrong(uppers_in=lambda self, delivery: delivery[:8]),
-    "known by a delivery that is held no more": wrong(mark_of=known_by_any),
-    "known if any delivery is held": wrong(mark_of=known_if_any_held),
+    **WRONG_MARKS,
     "a live mark needs a delivery": wrong(live=live_needs_delivery),
     "a margin without lowers": wrong(margin=margin_of_any_shape),
     "the lower for the upper": wrong(upper=Desk.lower),
@@ -528,7 +643,12 @@ WRONG = {
     "byte 127 taken": well_written(lambda byte: byte >= 32),
     "a line of 264 bytes refused": wrong(is_written_well=lambda self, line: Desk.is_written_well(self, line) and len(line) < 264),
 }
-RIGHT = {"short chances by the request's method": by_pairs(pair_of_request), "counter files by way of their model": wrong(file_counter=filed_as_its_model)}  # which no script may notice
+RIGHT = {  # which no script may notice
+    "short chances by the request's method": by_pairs(pair_of_request),
+    "counter files by way of their model": wrong(file_counter=filed_as_its_model),
+    "known by the bytes of the file": known_by(lambda self, delivery: delivery),  # a wrong desk until request A.3
+    "known by the shape and the numbers of each block": known_by(lambda self, delivery: (self.shape_in(delivery), plainpair.figures_of(self.model, delivery))),
+}
 
 
 def is_noticed(kind, folder, script, right):
