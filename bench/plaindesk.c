@@ -230,29 +230,32 @@ static bool holds_values(const uint32_t *numbers, const uint8_t *block, size_t c
     return e == count;
 }
 
+static size_t means_from(const struct model *m, struct shape shape)
+{
+    return shape.lowers ? 2 * m->entries : m->entries;
+}
+
 /* Whether a delivery of the same shape and the same records is held. Kinds, states and symbols are those due in any that is accepted, so that the numbers tell. */
 static bool is_known(const struct model *m, const uint8_t *delivery, size_t len)
 {
     struct shape shape = find_shape(m, delivery, len);
-    size_t means_from = shape.lowers ? 2 * m->entries : m->entries;
     if (!held.has_delivery || held.lowers != shape.lowers || held.means != shape.means || !holds_values(held.upper, delivery, m->entries))
         return false;
     if (shape.lowers && !holds_values(held.lower, delivery + FIGURE_BYTES * m->entries, m->entries))
         return false;
-    return !shape.means || holds_values(held.mean, delivery + FIGURE_BYTES * means_from, m->rows);
+    return !shape.means || holds_values(held.mean, delivery + FIGURE_BYTES * means_from(m, shape), m->rows);
 }
 
 static void hold_delivery(const struct model *m, const uint8_t *delivery, size_t len)
 {
     struct shape shape = find_shape(m, delivery, len);
-    size_t means_from = shape.lowers ? 2 * m->entries : m->entries;
     hold_values(held.upper, delivery, m->entries);
     if (shape.lowers) {
         hold_values(held.lower, delivery + FIGURE_BYTES * m->entries, m->entries);
         held.margin = least_share(m, delivery);
     }
     if (shape.means)
-        hold_values(held.mean, delivery + FIGURE_BYTES * means_from, m->rows);
+        hold_values(held.mean, delivery + FIGURE_BYTES * means_from(m, shape), m->rows);
     held.lowers = shape.lowers;
     held.means = shape.means;
     held.has_delivery = true;

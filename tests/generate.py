@@ -266,9 +266,17 @@ def other_blocks(table, whole, least):
         yield "R", whole._replace(mean=changed)
 
 
+def exchanged(table, whole):
+    """The figures with two small lowers, at entries through which a row's own rule returns, in either order; nothing where there are no two such entries."""
+    direct = [e for e, side in enumerate(checker.f(table, [0] * len(whole.upper))) if side]
+    for one, other in zip(direct, direct[1:]):
+        zeros = [0] * len(whole.upper)
+        yield [whole._replace(lower=with_one(with_one(zeros, one, values[0]), other, values[1])) for values in ((1, 2), (2, 1))]
+
+
 def alike(rng, table):
     """Pairs of figures, a list for each part in which the two may differ: a block that one lacks, lowers of zeros that one lacks, nothing but the kind of the block after
-    the uppers, and the numbers of each block. Most of them pass, and some are equal."""
+    the uppers, two numbers exchanged, and the numbers of each block. Most of them pass, and some are equal."""
     strict = least_uppers(table, 1, [0] * len(table.entries))
     upper = strict and least_uppers(table, 1, [u + rng.randrange(1, 1 << rng.randint(1, 16)) if u else 0 for u in strict])
     if upper is None:
@@ -280,7 +288,8 @@ def alike(rng, table):
     kinds = [(Figures(upper, least.mean, None), Figures(upper, None, least.mean))] if least.mean and table.states == 1 else []
     others = [(letter, (cut_to(shape, whole), cut_to(shape, other))) for letter, other in other_blocks(table, whole, least) for shape in shapes if letter in shape]
     numbers = [[pair for letter, pair in others if letter == block] for block in "ULR"]
-    return [list(itertools.combinations([cut_to(shape, whole) for shape in shapes], 2)), zeros, kinds, *numbers]
+    orders = [tuple(cut_to(shape, figures) for figures in pair) for pair in exchanged(table, whole) for shape in shapes if "L" in shape]
+    return [list(itertools.combinations([cut_to(shape, whole) for shape in shapes], 2)), zeros, kinds, orders, *numbers]
 
 
 # Changes of figures. Each takes (rng, table, figures) and hands back figures.

@@ -26,14 +26,15 @@ MOST_SHOWN = 5  # mismatches shown before giving up
 REASONS = (*range(10, 16), *range(20, 28), *range(40, 49))
 REPLIES = ("cleared", "accepted", "known", "new", "value", "refused", "unclear", "none")
 FILED = tuple("%s %s" % (mark, shape) for mark in ("known", "new") for shape in checker.SHAPES)
-# What a delivery has in common with the one before, each with the mark that request A.3 gives it; beside a counter file, whatever the shapes, what stands before the comma.
+# What a delivery has in common with the one before, or has alone, each with the mark that request A.3 gives it; beside a counter file, whatever the shapes, what stands
+# before the comma.
 LIKE = ("known: the same again", "known: the same after a refusal", "new: the same after another", "new: the same after a clearing",
         *("new: other %s alone, %s" % (block, shape) for block, letter in (("uppers", "U"), ("lowers", "L"), ("mean steps", "R")) for shape in checker.SHAPES if letter in shape),
-        *("new: the %s record alone, %s" % (place, shape) for place in ("first", "last") for shape in checker.SHAPES),
+        *("new: another %s record alone, %s" % (place, shape) for place in ("first", "last") for shape in checker.SHAPES),
         "new: the first record of each block, and not all", "new: the last record of each block, and not all",
         *("new: the blocks that both have, %s after %s" % shapes for shapes in itertools.permutations(checker.SHAPES, 2)),
         *("new: zeros for no lowers, %s after %s" % shapes for shapes in (("U", "UL"), ("UL", "U"), ("UR", "ULR"), ("ULR", "UR"))),
-        "new: the numbers and not the kinds, UL after UR", "new: the numbers and not the kinds, UR after UL")
+        "new: the numbers and not the kinds, UL after UR", "new: the numbers and not the kinds, UR after UL", "new: the numbers in another order, UL", "new: the numbers in another order, ULR")
 LIKE_BESIDE_COUNTERS = tuple(dict.fromkeys("beside a counter, " + kind.split(", ")[0] for kind in LIKE))
 SHORT = ("within: value above 0", "within: value 0", "within: 40", "within: 44", "within: 45", "within: 40 before 45", "within: 44 before 45")
 COUNTERS = ("counter: accepted", "counter: 41 beside a model", "counter: 41 beside a counter", "model: 41 beside a counter", "counter: 46", "counter: 47 at 0", "counter: 47 further on",
@@ -511,7 +512,9 @@ def likenesses_in_shape(shape, new, old):
         yield "other %s alone, %s" % (other[0], shape)
     differ = [one != before for _, *block in blocks for one, before in zip(*block)]
     if sum(differ) == 1 and len(differ) > 1:
-        yield from ("the %s record alone, %s" % (place, shape) for place, at in (("first", 0), ("last", -1)) if differ[at])
+        yield from ("another %s record alone, %s" % (place, shape) for place, at in (("first", 0), ("last", -1)) if differ[at])
+    if sorted(numbers_of(new)) == sorted(numbers_of(old)):
+        yield "the numbers in another order, %s" % shape
     for place, at in (("first", 0), ("last", -1)):
         if all(one[at] == before[at] for _, one, before in blocks):
             yield "the %s record of each block, and not all" % place

@@ -20,7 +20,8 @@ STEPS = range(5)  # that a short chance is asked for: 0 to 3, and 4, which is re
 REPLIES = {"cleared", "accepted", "known", "new", "value", "refused", "unclear", None}
 SHAPES_OF_W = {"w-u": {"lower": None, "mean": None}, "w-ul": {"mean": None}, "w-ur": {"lower": None}, "w": {}}  # the four shapes, by what each lacks
 OTHERS = {"least": {"upper": [655360, 466034, 0, 1179648]}, "first": {"upper": [655361, 524288, 0, 1179648]}, "lowers": {"lower": [524288, 262144, 0, 1048576]},
-          "zeros": {"lower": [0, 0, 0, 0]}, "486": {"mean": [486, 256]}}  # a block of W that is accepted too
+          "zeros": {"lower": [0, 0, 0, 0]}, "one-two": {"lower": [1, 2, 0, 0]}, "two-one": {"lower": [2, 1, 0, 0]},
+          "486": {"mean": [486, 256]}}  # a block of W that is accepted too
 # Another last record of each shape.
 LAST = {"w-u": {"upper": [655360, 524288, 0, 1179649]}, "w-ul": {"lower": [524288, 393216, 0, 1048575]}, "w-ur": {"mean": [512, 257]}, "w": {"mean": [512, 257]}}
 
@@ -178,6 +179,8 @@ def marks_and_records():
         yield from ("delivery %s.cer" % name, "delivery %s.cer" % other, *asked, "delivery %s.cer" % other, "delivery %s.cer" % name)
     yield "# Lowers of zeros, and no lowers: each is new after the other."
     yield from ("delivery %s.cer" % name for pair in (("w-u", "w-ul-zeros"), ("w-ur", "w-zeros")) for name in (*pair, *pair))
+    yield "# The same numbers in another order: each is new after the other."
+    yield from ("delivery %s-%s.cer" % (name, order) for name in ("w-ul", "w") for order in ("one-two", "two-one") * 2)
 
 
 def marks_and_calls():

@@ -265,6 +265,7 @@ WRONG_MARKS = {
     "known by the length": known_by(lambda self, delivery: len(delivery)),
     "known by the numbers, whatever the kinds": known_by(numbers),
     "known by the numbers, with zeros for a missing block": known_by(zeros_for_none),
+    "known by the shape and the numbers, in whatever order": known_by(lambda self, delivery: (self.shape_in(delivery), sorted(numbers(self, delivery)))),
     "known with other uppers": known_by(without_block(checker.UPPER)),
     "known with other lowers": known_by(without_block(checker.LOWER)),
     "known with other mean steps": known_by(without_block(checker.MEAN)),

@@ -1,6 +1,6 @@
--- Two shapes are the same where their blocks are. What the shape of a file means: its length is that of the shape, a file without a shape has the length of none, and every length of a
--- shape gives that shape. Where s is 1, UL and UR are equally long, and the kind of record V tells them apart. Besides, the choice of a
--- shape as the code makes it, and that the file holds every block of its shape.
+-- Two shapes are the same where their blocks are. What the shape of a file means: its length is that of the shape, a file without a shape
+-- has the length of none, and every length of a shape gives that shape. Where s is 1, UL and UR are equally long, and the kind of record V
+-- tells them apart. Besides, the choice of a shape as the code makes it, and that the file holds every block of its shape.
 use Prim.Native.Nat.{ℕ, _+_, _*_, _≤_, _<_}
 use native.Mathlib.Nat.{mul-pos, mul-le-mul-left}
 use native.Mathlib.Omega.{arith}

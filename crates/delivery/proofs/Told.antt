@@ -19,10 +19,11 @@ SameFields d e i =
     × ((stateAt d i ≡ stateAt e i)
     × ((symbolAt d i ≡ symbolAt e i) × ((exitAt d i ≡ exitAt e i) × (valueAt d i ≡ valueAt e i))))
 
--- The records of a file, one after the other, are the file.
+-- Record i of a file, made again of its fields.
 abbrev recordAgain : List ℕ → ℕ → List ℕ
 recordAgain d i = deliveryRecord (kindAt d i) (stateAt d i) (symbolAt d i) (exitAt d i) (valueAt d i)
 
+-- The records of a file, one after the other, are the file.
 records-again : (n : ℕ) (d : List ℕ) → Bytes d → length d ≡ recordBytes * n → (h : ℕ → List ℕ) → ((i : ℕ) → i < n → h i ≡ recordAgain d i) → each n h ≡ d
 records-again n d bytes size h same =
     parts-joined recordBytes h d 0 n part ∙ take-all (n * recordBytes) d (omega arith)

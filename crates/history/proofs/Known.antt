@@ -1,12 +1,10 @@
--- After any list of calls a delivery is marked known exactly where it is the file that is held.
+-- After any list of calls a delivery that is marked known is the file that is held, and the file that is held is known.
 use Prim.Native.Nat.{ℕ}
 use native.Mathlib.Omega.{arith}
 use mathlib.Core.Bool.{Bool, true, false, cond}
 use mathlib.Core.List.{List}
-use mathlib.Core.Logic.{_↔_}
 use mathlib.Core.Option.{Option, none, some}
-use mathlib.Core.Path.{_≡_, refl, sym, ap, subst, _∙_}
-use Rattle.words.specs.Words.{Bytes}
+use mathlib.Core.Path.{_≡_, refl, sym, _∙_}
 use Rattle.outcome.specs.declared.Outcome.{Outcome}
 use Rattle.outcome.specs.declared.Outcome.the-variants.{Accepted, Refused}
 use Rattle.verdict.specs.Verdict.{verdict}
@@ -14,7 +12,7 @@ use Rattle.verdict.proofs.Accepted.{delivery-accepted}
 use Rattle.calls.specs.Calls.{Call, fileDelivery, known, new}
 use Rattle.history.specs.Plain.{lastModel, lastDelivery, ofModel, byVerdict, sameDelivery, markOf, plainReply}
 use Rattle.history.specs.Run.{history, replyTo}
-use Rattle.history.specs.Mission.{HoldsDelivery, KnownHeld, HeldKnown}
+use Rattle.history.specs.Mission.{KnownHeld, HeldKnown}
 use Rattle.history.proofs.Same.{itself-same, same-bytes}
 use Rattle.history.proofs.Pairs.{Right}
 use Rattle.history.proofs.Plain.{right-pair, as-plain-pair}
@@ -63,13 +61,3 @@ held-by (some b) y d right e =
 pub held-known : (cs : List Call) → HeldKnown cs
 unfolding plainReply
 held-known cs d e = as-plain-pair cs (fileDelivery d) ∙ held-by (lastModel (history cs)) (lastDelivery (history cs)) d (right-pair cs) e
-
--- So, of files: where a delivery is held, another is known exactly where its bytes are the same.
-pub known-exactly : (cs : List Call) (d e : List ℕ) → HoldsDelivery cs e → Bytes e → Bytes d → (replyTo cs (fileDelivery d) ≡ known) ↔ (e ≡ d)
-known-exactly cs d e holds bytes bytes′ = (
-  λ is.
-      let (former, held, same) = known-held cs d is in
-      let here : former ≡ e = cc in
-      subst (λ x. Bytes x → Bytes d → x ≡ d) here same bytes bytes′,
-  λ same. held-known cs d (holds ∙ ap some same),
-)

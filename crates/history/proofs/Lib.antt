@@ -10,5 +10,6 @@ pub mod Named
 pub mod Shown
 pub mod Passages
 pub mod Mission
+pub mod KnownExactly
 pub mod QueueHeld
 pub mod Edges

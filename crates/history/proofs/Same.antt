@@ -1,5 +1,5 @@
--- Two accepted deliveries for one model are the same (`sameDelivery`) exactly where what the register holds of them is, and exactly where their bytes are: kind, p, Z
--- and q are those due there in both, so that the values alone can differ.
+-- Two accepted deliveries for one model are the same (`sameDelivery`) exactly where what the register holds of them is, and exactly where
+-- their bytes are: kind, p, Z and q are those due there in both, so that the values alone can differ.
 use Prim.Native.Nat.{ℕ, _+_, _*_, _≤_, _<_}
 use native.Mathlib.Omega.{arith}
 use mathlib.Core.Bool.{Bool, true, false, false≢true, _&&_, and-eq-true-iff}

@@ -37,7 +37,8 @@ abbrev pub AllTables : (List Event → Type 0) → List (List Event) → Type 0
 AllTables P [] = Unit {0}
 AllTables P (t ∷ ts) = P t × AllTables P ts
 
--- Deliveries for W: the uppers alone, with the first and the last one open; with lowers, all open but that of the dead entry; with mean steps, both open.
+-- Deliveries for W: the uppers alone, with the first and the last one open; with lowers, all open but that of the dead entry; with mean steps, both open; with all
+-- blocks, the last lower and the last mean steps open.
 abbrev pub uppersFileWith : ℕ → ℕ → List ℕ
 uppersFileWith a u =
     deliveryRecord 85 0 0 0 a ++ (deliveryRecord 85 0 0 1 524288
@@ -46,19 +47,26 @@ uppersFileWith a u =
 abbrev pub uppersFile : List ℕ
 uppersFile = uppersFileWith 655360 1179648
 
+abbrev pub lowersBlock : ℕ → ℕ → ℕ → List ℕ
+lowersBlock a k l = deliveryRecord 76 0 0 0 a ++ (deliveryRecord 76 0 0 1 k ++ (deliveryRecord 76 1 0 0 0 ++ deliveryRecord 76 1 0 1 l))
+
 abbrev pub lowersFileWith : ℕ → ℕ → ℕ → List ℕ
-lowersFileWith a k l =
-    uppersFile ++ (deliveryRecord 76 0 0 0 a ++ (deliveryRecord 76 0 0 1 k
-    ++ (deliveryRecord 76 1 0 0 0 ++ deliveryRecord 76 1 0 1 l)))
+lowersFileWith a k l = uppersFile ++ lowersBlock a k l
 
 abbrev pub lowersFile : List ℕ
 lowersFile = lowersFileWith 524288 393216 1048576
 
+abbrev pub meansBlock : ℕ → ℕ → List ℕ
+meansBlock a r = deliveryRecord 82 0 0 0 a ++ deliveryRecord 82 1 0 0 r
+
 abbrev pub meansFileWith : ℕ → ℕ → List ℕ
-meansFileWith a r = uppersFile ++ (deliveryRecord 82 0 0 0 a ++ deliveryRecord 82 1 0 0 r)
+meansFileWith a r = uppersFile ++ meansBlock a r
 
 abbrev pub meansFile : List ℕ
 meansFile = meansFileWith 512 256
+
+abbrev pub wholeFileWith : ℕ → ℕ → List ℕ
+wholeFileWith l r = lowersFileWith 524288 393216 l ++ meansBlock 512 r
 
 -- Nothing is held: 40, whatever is filed or asked.
 abbrev pub emptyExchanges : List Event
@@ -117,7 +125,7 @@ upperExchanges =
     ∷ due (fileDelivery uppersFile) new
     ∷ []
 
--- The same uppers with lowers are new; mean steps get 43.
+-- The same uppers with lowers are new, and so are the same lowers with another upper; mean steps get 43.
 abbrev pub lowerExchanges : List Event
 lowerExchanges =
     due (fileModel wFile) accepted
@@ -126,9 +134,11 @@ lowerExchanges =
     ∷ due (lower 0 0 1) (value 393216)
     ∷ due margin (value 45875)
     ∷ due (meanSteps 0 0) (refusal 43)
+    ∷ due (fileDelivery (uppersFileWith 655361 1179648 ++ lowersBlock 524288 393216 1048576)) new
+    ∷ due (upper 0 0 0) (value 655361)
     ∷ []
 
--- The same uppers with mean steps are new; lowers and the margin get 43.
+-- The same uppers with mean steps are new, and so are the same mean steps with another upper; lowers and the margin get 43.
 abbrev pub meanExchanges : List Event
 meanExchanges =
     due (fileModel wFile) accepted
@@ -138,6 +148,8 @@ meanExchanges =
     ∷ due (meanSteps 1 0) (value 256)
     ∷ due (lower 0 0 0) (refusal 43)
     ∷ due margin (refusal 43)
+    ∷ due (fileDelivery (uppersFileWith 655360 1179649 ++ meansBlock 512 256)) new
+    ∷ due (upper 1 0 1) (value 1179649)
     ∷ []
 
 -- All blocks; a refused delivery changes nothing; another upper is new; the former model's delivery is gone after a clearing.
@@ -161,8 +173,16 @@ allExchanges =
     ∷ due (upper 0 0 0) (refusal 42)
     ∷ []
 
--- Two states and two symbols: a delivery is new where an upper or mean steps of the second symbol or of the second state alone differ; each number is that of
--- its own entry and row.
+-- Uppers and lowers for two states and two symbols, of which every rule ends in state 0: the lowers of the second symbol and of the second state are open.
+abbrev pub fourLowers : ℕ → ℕ → List ℕ
+fourLowers k l =
+    deliveryRecord 85 0 0 0 1048577 ++ (deliveryRecord 85 0 0 1 0 ++ (deliveryRecord 85 0 1 0 1048577 ++ (deliveryRecord 85 0 1 1 0
+    ++ (deliveryRecord 85 1 0 0 1048577 ++ (deliveryRecord 85 1 0 1 0 ++ (deliveryRecord 85 1 1 0 1048577 ++ (deliveryRecord 85 1 1 1 0
+    ++ (deliveryRecord 76 0 0 0 1048576 ++ (deliveryRecord 76 0 0 1 0 ++ (deliveryRecord 76 0 1 0 k ++ (deliveryRecord 76 0 1 1 0
+    ++ (deliveryRecord 76 1 0 0 l ++ (deliveryRecord 76 1 0 1 0 ++ (deliveryRecord 76 1 1 0 1048576 ++ deliveryRecord 76 1 1 1 0))))))))))))))
+
+-- Two states and two symbols: a delivery is new where an upper, a lower or mean steps of the second symbol or of the second state alone differ; each number is that
+-- of its own entry and row.
 abbrev pub wideExchanges : List Event
 wideExchanges =
     due (fileModel allToZero) accepted
@@ -180,9 +200,15 @@ wideExchanges =
     ∷ due (fileDelivery (fourRows 0 1048579 0 1048576 0 258 258)) new
     ∷ due (fileDelivery (fourRows 0 1048579 0 1048576 0 258 259)) new
     ∷ due (fileDelivery (fourRows 0 1048579 0 1048576 0 258 259)) known
+    ∷ due (fileDelivery (fourLowers 1048576 1048576)) new
+    ∷ due (fileDelivery (fourLowers 1048575 1048576)) new
+    ∷ due (fileDelivery (fourLowers 1048575 1048574)) new
+    ∷ due (fileDelivery (fourLowers 1048575 1048574)) known
+    ∷ due (lower 0 1 0) (value 1048575)
+    ∷ due (lower 1 0 0) (value 1048574)
     ∷ []
 
--- Marks (request A.3), under the same uppers throughout: a delivery is new with a block more, of zeros alone too, or fewer; where a lower or mean steps alone
+-- Marks (request A.3); all that is accepted has the same uppers. A delivery is new with a block more, of zeros alone too, or fewer; where a lower or mean steps alone
 -- differ, the first and the last; and known where it is the very same file, also after a refused one, but not after a clearing.
 abbrev pub markExchanges : List Event
 markExchanges =
@@ -208,6 +234,11 @@ markExchanges =
     ∷ due (fileDelivery (wDelivery 524288 512)) new
     ∷ due (fileDelivery (wDelivery 524288 511)) new
     ∷ due (meanSteps 0 0) (value 511)
+    ∷ due (fileDelivery (wholeFileWith 1048576 256)) new
+    ∷ due (fileDelivery (wholeFileWith 1048575 256)) new
+    ∷ due (fileDelivery (wholeFileWith 1048575 257)) new
+    ∷ due (fileDelivery (wholeFileWith 1048575 257)) known
+    ∷ due (fileDelivery (wDelivery 524288 511)) new
     ∷ due (fileDelivery (wDelivery 466033 511)) (refused 24 1 (negsuc 30064771071))
     ∷ due (fileDelivery (wDelivery 524288 511)) known
     ∷ due clear cleared
