@@ -26,7 +26,7 @@ use Rattle.walks.proofs.Exactly.{both}
 -- ---- blocks
 
 -- A test of two answers says whether they are the same.
-alike : (a b : Bool) → (Bool·beq a b ≡ true) ↔ (a ≡ b)
+pub alike : (a b : Bool) → (Bool·beq a b ≡ true) ↔ (a ≡ b)
 alike true true = (λ e. refl, λ e. refl)
 alike true false = (λ e. absurd (true≢false (sym e)), λ e. absurd (true≢false e))
 alike false true = (λ e. absurd (true≢false (sym e)), λ e. absurd (true≢false (sym e)))
@@ -42,14 +42,14 @@ blocks-tell UL = refl
 blocks-tell UR = refl
 blocks-tell ULR = refl
 
+pub same-blocks : (h k : Shape) → (sameShape h k ≡ true) ↔ ((hasLowers h ≡ hasLowers k) × (hasMeans h ≡ hasMeans k))
+same-blocks h k = both _ _ (alike (hasLowers h) (hasLowers k)) (alike (hasMeans h) (hasMeans k))
+
 pub same-shape : (h k : Shape) → (sameShape h k ≡ true) ↔ (h ≡ k)
 same-shape h k = (
-  λ e. let (lowers, means) = blocks .0 e in sym (blocks-tell h) ∙ ap₂ byBlocks lowers means ∙ blocks-tell k,
-  λ e. blocks .1 (ap hasLowers e, ap hasMeans e),
+  λ e. let (lowers, means) = same-blocks h k .0 e in sym (blocks-tell h) ∙ ap₂ byBlocks lowers means ∙ blocks-tell k,
+  λ e. same-blocks h k .1 (ap hasLowers e, ap hasMeans e),
 )
-  where
-    blocks : (sameShape h k ≡ true) ↔ ((hasLowers h ≡ hasLowers k) × (hasMeans h ≡ hasMeans k))
-    blocks = both _ _ (alike (hasLowers h) (hasLowers k)) (alike (hasMeans h) (hasMeans k))
 
 -- ---- lengths
 

@@ -52,9 +52,10 @@ fn same_numbers(n: Sizes, former: Numbers, numbers: Numbers) -> bool
     let lowers = numbers.lowers;
     let means = numbers.means;
     let v = n.entries();
+    let rows = n.rows();
     same(&former_uppers, &uppers, v)
         & same(&former_lowers, &lowers, v)
-        & same(&former_means, &means, n.rows())
+        & same(&former_means, &means, rows)
 }
 
 // The mark of a delivery of this shape with these numbers, by what was held before it.

@@ -10,7 +10,7 @@ use lib.ListN.{getD}
 use Rattle.outcome.specs.declared.Outcome.the-variants.{Accepted}
 use Rattle.walks.specs.Sums.{allTo}
 use Rattle.walks.specs.Order.{entriesIn, rowsIn, rowAt, entryAt, AtRows, AtEntries}
-use Rattle.walks.proofs.Exactly.{eq-exactly, both}
+use Rattle.walks.proofs.Exactly.{eq-exactly, both, same-test}
 use Rattle.walks.proofs.Sums.{all-exactly}
 use Rattle.words.specs.Words.{Bytes}
 use Rattle.model.specs.Format.{mostEntries}
@@ -36,7 +36,7 @@ use Rattle.certificate.proofs.Rest.{at-numbers, at-row-numbers}
 use Rattle.held.specs.Held.{listed, listedRows, ifStanding, numbersHeld}
 use Rattle.held.proofs.Listed.{listed-at, rows-at}
 use Rattle.filing.specs.Known.{sameTo, sameNumbers}
-use Rattle.filing.proofs.Known.{same-test, same-exactly}
+use Rattle.filing.proofs.Known.{same-exactly}
 use Rattle.register.specs.Filing.{shapeFor}
 use Rattle.history.specs.Plain.{sameRecord, sameAs, sameDelivery}
 

@@ -9,6 +9,7 @@ use mathlib.Core.Logic.{_⊎_, inl, inr}
 use mathlib.Core.Path.{_≡_, refl, sym, _∙_}
 use lib.Dec.{eqb}
 use borrow.Author.Tests.{eqb-true, eq-eqb}
+use Rattle.walks.proofs.Exactly.{same-test}
 use Rattle.walks.proofs.Places.{row-lower, row-once}
 use Rattle.ppda.specs.Rules.{fits, overRow}
 use Rattle.walks.proofs.Sums.{sumTo-cong}
@@ -20,19 +21,14 @@ use Rattle.model.proofs.Records.{symbol-below, over-row}
 
 -- ---- the rows of records
 
--- Tests that pass in the same cases are equal.
-same-test : (s t : Bool) → (s ≡ true → t ≡ true) → (t ≡ true → s ≡ true) → s ≡ t
-same-test true t f g = sym (f refl)
-same-test false true f g = g refl
-same-test false false f g = refl
-
 pub row-fits : (b : List ℕ) (i p z : ℕ) → i < recordsOf b → z < symbolsOf b
     → fits (ruleOf b i) p z ≡ eqb (rowOf b (symbolsOf b) i) (p * symbolsOf b + z)
 unfolding ruleOf rowOf
 row-fits b i p z l hz =
-    same-test (fits (ruleOf b i) p z) (eqb (rowOf b (symbolsOf b) i) (p * symbolsOf b + z))
-    (λ e. let h = fits-exactly (ruleOf b i) p z .0 e in eq-eqb (rowOf b (symbolsOf b) i) (p * symbolsOf b + z) (rw (h .0, h .1)))
-    (λ e. fits-exactly (ruleOf b i) p z .1 (row-once (symbolsOf b) (state b i) (symbol b i) p z (symbol-below b i l) hz (eqb-true _ _ e)))
+    same-test (fits (ruleOf b i) p z) (eqb (rowOf b (symbolsOf b) i) (p * symbolsOf b + z)) (
+      λ e. let h = fits-exactly (ruleOf b i) p z .0 e in eq-eqb (rowOf b (symbolsOf b) i) (p * symbolsOf b + z) (rw (h .0, h .1)),
+      λ e. fits-exactly (ruleOf b i) p z .1 (row-once (symbolsOf b) (state b i) (symbol b i) p z (symbol-below b i l) hz (eqb-true _ _ e)),
+    )
 
 pub row-sum : (b : List ℕ) (p z : ℕ) → z < symbolsOf b
     → rowSum b (symbolsOf b) (p * symbolsOf b + z) ≡ overRow (rulesOf b) p z (λ r. 1)

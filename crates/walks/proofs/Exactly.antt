@@ -43,3 +43,9 @@ and-fails false t = (λ e q. absurd (true≢false (sym q)), λ h. refl)
 pub or-fails : (s t : Bool) → ((s || t) ≡ false) ↔ ((s ≡ false) × (t ≡ false))
 or-fails true t = (λ e. absurd (true≢false e), λ h. h .0)
 or-fails false t = (λ e. (refl, e), λ h. h .1)
+
+-- Two tests that hold in the same cases are the same.
+pub same-test : (s t : Bool) → (s ≡ true) ↔ (t ≡ true) → s ≡ t
+same-test true t f = sym (f .0 refl)
+same-test false true f = f .1 refl
+same-test false false f = refl

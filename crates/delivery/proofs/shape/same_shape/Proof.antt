@@ -1,16 +1,10 @@
--- `same_shape`: each block's answers for the two shapes are compared, as the definition has it.
-use mathlib.Core.Bool.{Bool, _&&_, Bool·beq}
-use mathlib.Core.Path.{_≡_}
+-- `same_shape`: the answers for each block are the same exactly where the two shapes have both that block or neither.
+use mathlib.Core.Path.{refl, sym, _∙_}
 use borrow.Author.Needs.{needs}
-use Rattle.delivery.specs.declared.shape.Shape.{Shape}
-use Rattle.delivery.specs.Shapes.{hasLowers, hasMeans, sameShape}
+use Rattle.walks.proofs.Exactly.{both, same-test}
+use Rattle.delivery.proofs.Shapes.{alike, same-blocks}
 use Rattle.delivery.proofs.shape.same_shape.Statement.{statement}
 use Rattle.delivery.proofs.shape.same_shape.Tie as tie
-
--- The comparison by the answers for each block.
-compared : (h k : Shape) {l m r s : Bool} → l ≡ hasLowers h → m ≡ hasLowers k → r ≡ hasMeans h → s ≡ hasMeans k
-    → (Bool·beq l m && Bool·beq r s) ≡ sameShape h k
-compared h k lowers lowers′ means means′ = rw (lowers, lowers′, means, means′)
 
 has-lowers-requires : tie.Need-has-lowers-requires
 has-lowers-requires c κs = search needs
@@ -27,8 +21,19 @@ has-means-requires-2 c κs = search needs
 returns : tie.Need-returns
 returns c =
     let args = c .before .before .before .before .args in
-    compared (args .a) (args .b) (c .before .before .before .has-lowers .ensures) (c .before .before .has-lowers2 .ensures) (c .before .has-means .ensures)
-    (c .has-means2 .ensures)
+    let l = c .before .before .before .has-lowers in
+    let m = c .before .before .has-lowers2 in
+    let r = c .before .has-means in
+    let s = c .has-means2 in
+    let found = both _ _ (alike (l .result) (m .result)) (alike (r .result) (s .result)) in
+    same-test _ _ (
+      λ e.
+          let (lowers, means) = found .0 e in
+          same-blocks (args .a) (args .b) .1 (rw (sym (l .ensures) ∙ lowers ∙ m .ensures) refl, rw (sym (r .ensures) ∙ means ∙ s .ensures) refl),
+      λ e.
+          let (lowers, means) = same-blocks (args .a) (args .b) .0 e in
+          found .1 (rw (l .ensures, m .ensures, lowers) refl, rw (r .ensures, s .ensures, means) refl),
+    )
 
 pub same-shape-spec : {M : Type 1} → statement M
 same-shape-spec =
