@@ -1,31 +1,53 @@
 -- The laws of a model file's records, of its sizes, and of a row's sum over them.
-use Prim.Native.Nat.{ℕ, _+_, _-_, _*_, _≤_, _<_}
+use Prim.Native.Nat.{ℕ, suc, _+_, _-_, _*_, _≤_, _<_, max}
 use native.Mathlib.Nat.{max-le, mul-le-mul}
-use native.Mathlib.Numerals.{add-one}
 use native.Mathlib.Omega.{arith}
 use mathlib.Core.List.{List}
-use mathlib.Core.Path.{_≡_}
+use mathlib.Core.Path.{_≡_, sym, ap, ap₂, _∙_}
 use Rattle.walks.specs.Sums.{bit, sumTo, greatestTo}
 use Rattle.walks.specs.Order.{rowsIn, entriesIn}
 use Rattle.ppda.specs.Rules.{Rule, fits, overRow}
-use Rattle.walks.proofs.Sums.{greatest-le, greatest-most}
+use Rattle.walks.proofs.Sums.{greatest-none, greatest-step, greatest-le, greatest-most}
 use Rattle.walks.proofs.Lists.{listTo-sum}
 use Rattle.model.specs.Format.{mostStates, mostSymbols, mostRows}
 use Rattle.model.specs.Records.{recordsOf, state, symbol, target, top, under, weight, stateNamed, symbolNamed, statesOf, symbolsOf}
 use Rattle.model.specs.Rules.{ruleOf, rulesOf}
 use Rattle.model.specs.Accepted.{RecordRight}
-use Rattle.model.specs.Contracts.{Narrow, Fits}
+use Rattle.model.specs.Contracts.{Narrow, Fits, SizesTo}
+use Rattle.model.specs.Sizes.{sizesOf}
+use Rattle.model.specs.declared.sizes.Sizes.{Sizes}
 
 -- ---- states and symbols
 
--- s and g are one more than the greatest state and symbol named.
-pub states-named : (b : List ℕ) {k n : ℕ} → k ≡ greatestTo (stateNamed b) n → n ≡ recordsOf b → k + 1 ≡ statesOf b
-unfolding statesOf
-states-named b e m = rw (e, m, add-one)
+-- The sizes of no records, and of one record more.
+pub sizes-none : {b : List ℕ} {n : Sizes} → n .states ≡ 1 → n .symbols ≡ 1 → SizesTo b 0 n
+sizes-none {b} s g =
+    record {
+      states = s ∙ sym (ap suc (greatest-none (stateNamed b)));
+      symbols = g ∙ sym (ap suc (greatest-none (symbolNamed b)));
+      few-states = omega (arith, s);
+      few-symbols = omega (arith, g);
+    }
 
-pub symbols-named : (b : List ℕ) {k n : ℕ} → k ≡ greatestTo (symbolNamed b) n → n ≡ recordsOf b → k + 1 ≡ symbolsOf b
-unfolding symbolsOf
-symbols-named b e m = rw (e, m, add-one)
+-- The greater of one more than the greatest before and one more than the next.
+next-greatest : (h : ℕ → ℕ) (i : ℕ) {a n k : ℕ} → a ≡ suc (greatestTo h i) → n ≡ h i → k ≡ max a (n + 1) → k ≡ suc (greatestTo h (i + 1))
+next-greatest h i {a} {n} {k} before next e =
+    e ∙ ap₂ max before (ap (λ m. m + 1) next) ∙ omega (arith, greatest-step h i)
+
+pub sizes-more : {b : List ℕ} {i s g : ℕ} {n m : Sizes} → SizesTo b i n → (s ≡ stateNamed b i) × (s < 65536) → (g ≡ symbolNamed b i) × (g < 65536)
+    → m .states ≡ max (n .states) (s + 1) → m .symbols ≡ max (n .symbols) (g + 1) → SizesTo b (i + 1) m
+sizes-more {b} {i} before state symbol es eg =
+    record {
+      states = next-greatest (stateNamed b) i (before .states) (state .0) es;
+      symbols = next-greatest (symbolNamed b) i (before .symbols) (symbol .0) eg;
+      few-states = rw es (max-le (before .few-states) (omega (arith, state .1)));
+      few-symbols = rw eg (max-le (before .few-symbols) (omega (arith, symbol .1)));
+    }
+
+-- Of all records they are the file's.
+pub sizes-all : {b : List ℕ} {n : Sizes} → SizesTo b (recordsOf b) n → n ≡ sizesOf b
+unfolding statesOf symbolsOf
+sizes-all {b} {n} all = rw (← all .states, ← all .symbols)
 
 module _ (b : List ℕ) (i : ℕ) (below : i < recordsOf b) where
   pub state-below : state b i < statesOf b

@@ -1,11 +1,13 @@
 -- What functions over a model file ask: its sizes and records, where a row starts, and that it is accepted.
-use Prim.Native.Nat.{ℕ, _≤_, _<_, _+_, _*_}
+use Prim.Native.Nat.{ℕ, suc, _≤_, _<_, _+_, _*_}
 use mathlib.Core.List.{List}
 use mathlib.Core.Path.{_≡_}
 use lib.ListN.{length}
-use Rattle.model.specs.Records.{statesOf, symbolsOf, recordsOf}
+use Rattle.model.specs.declared.sizes.Sizes.{Sizes}
+use Rattle.model.specs.Records.{statesOf, symbolsOf, recordsOf, stateNamed, symbolNamed}
 use Rattle.model.specs.Accepted.{ModelFile}
 use Rattle.model.specs.Rules.{rowOf}
+use Rattle.walks.specs.Sums.{greatestTo}
 use Rattle.walks.specs.Order.{rowsIn, entriesIn}
 use Rattle.model.specs.Format.{mostStates, mostSymbols, mostRows, mostEntries, recordBytes}
 
@@ -34,6 +36,13 @@ pub record Fits (s g : ℕ) : Type 0 where
 pub record Narrow (s g : ℕ) : Type 0 where
   pub states : s < 65536
   pub symbols : g < 65536
+
+-- n are the sizes of the first i records: one more than the greatest state and symbol that these name, and 1 of each where there are none.
+pub record SizesTo (b : List ℕ) (i : ℕ) (n : Sizes) : Type 0 where
+  pub states : n .states ≡ suc (greatestTo (stateNamed b) i)
+  pub symbols : n .symbols ≡ suc (greatestTo (symbolNamed b) i)
+  pub few-states : n .states ≤ 65536
+  pub few-symbols : n .symbols ≤ 65536
 
 -- Record i is whole in the file.
 abbrev pub HasRecord : List ℕ → ℕ → Type 0

@@ -7,11 +7,11 @@ use super::record::target;
 use super::record::top;
 use super::record::under;
 ghost use mathlib.Core.Path.{_≡_};
-ghost use Prim.Native.Nat.{_≤_, _<_, max};
+ghost use Prim.Native.Nat.{_+_, _≤_, _<_, max};
 ghost use Rattle.walks.specs.Order.{rowsIn, entriesIn, rowAt, entryIn, entryAt};
 ghost use Rattle.model.specs.Format.{mostRows, mostEntries};
 ghost use Rattle.model.specs.Records.{recordsOf, stateNamed, symbolNamed, statesOf, symbolsOf};
-ghost use Rattle.model.specs.Contracts.{HasRecord, Narrow, Fits};
+ghost use Rattle.model.specs.Contracts.{HasRecord, Narrow, Fits, SizesTo};
 ghost use Rattle.model.specs.Sizes.{sizesOf};
 
 // The numbers of states and symbols. Rows (p, Z) and entries (p, Z, q) are numbered in the order of files.
@@ -60,6 +60,27 @@ impl Sizes {
     {
         self.entry_in(self.row(p, z), q)
     }
+
+    // The sizes of one record more: of the records before record i, these are the sizes.
+    pub fn with_record(self, model: &[u8], i: usize) -> Sizes
+        requires { ⌜ HasRecord (now model) i × SizesTo (now model) i self ⌝ }
+        ensures { λ r. ⌜ SizesTo (now (model .entry)) (i + 1) r ⌝ }
+    {
+        Sizes {
+            states: greater(self.states, state_named(model, i) + 1),
+            symbols: greater(self.symbols, symbol_named(model, i) + 1),
+        }
+    }
+}
+
+// The sizes of no records: a state and a symbol.
+pub fn no_records() -> Sizes
+    ensures { λ r. ⌜ (r .states ≡ 1) × (r .symbols ≡ 1) ⌝ }
+{
+    Sizes {
+        states: 1,
+        symbols: 1,
+    }
 }
 
 // How many whole records the file has.
@@ -98,18 +119,13 @@ pub fn sizes_of(model: &[u8]) -> Sizes
     ensures { λ r. ⌜ (r ≡ sizesOf (now (model .entry))) × (r .states ≤ 65536) × (r .symbols ≤ 65536) ⌝ }
 {
     let n = records(model);
-    let mut state = 0;
-    let mut symbol = 0;
+    let mut sizes = no_records();
     let mut i = 0;
     while i < n {
-        state = greater(state, state_named(model, i));
-        symbol = greater(symbol, symbol_named(model, i));
+        sizes = sizes.with_record(model, i);
         i += 1;
     }
-    Sizes {
-        states: state + 1,
-        symbols: symbol + 1,
-    }
+    sizes
 }
 
 // s: one more than the greatest state that a record names.
