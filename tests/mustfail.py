@@ -26,7 +26,7 @@ class Row(NamedTuple):
 
 
 # Registers that have to break the contracts (document 01, "Conditions of acceptance", 3); the mistakes of method; short runs (request A.1);
-# counter machines (request A.2); marks (request A.3); live marks, and reasons; desks.
+# counter machines (request A.2); marks (request A.3); the order of records (request A.4); live marks, and reasons; desks.
 TABLE = [
     Row("takes no model", "filing/takes_no_model", ("let found = wellformed::check(file); found",)),
     Row("takes no model", "wellformed/takes_no_model", ("    (0 < n) & ((n % RECORD_BYTES == 0) & (n <= 10240))",)),
@@ -172,6 +172,18 @@ TABLE = [
         ("  pub known-held : KnownHeld (let xs = cs in xs)", "use mathlib.Core.List.{List, []}", "  known-held = known-held (let xs = cs in xs);")),
     Row("promises nothing of a delivery that is known", "history/known_promised_of_nothing",
         ("(Bytes e → Bytes d → let x = d in e ≡ x)", "λ bytes bytes′. same-bytes _ _ d right bytes bytes′ .0 (by .same))")),
+
+    Row("weighs Y and X alike in a record's number", "model/top_and_under_weighed_alike",
+        ("    ((((p * KEY_BASE + z) * KEY_BASE + q) * KEY_BASE + l) * KEY_BASE + y) * 256 + x",)),
+    Row("weighs Y and X alike in a record's number, by definition", "model/top_and_under_weighed_alike_by_definition",
+        ("keyBases = keyBase ∷ keyBase ∷ keyBase ∷ keyBase ∷ keyBase ∷ 256 ∷ []",
+         "    ((((p * KEY_BASE + z) * KEY_BASE + q) * KEY_BASE + l) * KEY_BASE + y) * 256 + x")),
+    Row("forms a record's number to the base 255", "model/base_255", ("pub const KEY_BASE: u64 = 0x100;",)),
+    Row("forms a record's number to the base 255, by definition", "model/base_255_by_definition",
+        ("keyBase = (256)", "pub const KEY_BASE: u64 = 0x100;")),
+    Row("takes equal numbers as ascending", "wellformed/equal_numbers_taken", ("    (i == 0) | (number > before)",)),
+    Row("does not keep the number of the record before", "wellformed/number_before_not_kept", ("        let last = number; before = last;",)),
+    Row("does not test X where nothing is pushed", "wellformed/unused_x_not_tested", ("        return (x == 0) & (y == 0);",)),
 
     Row("finds the live marks a round short", "live/marks_a_round_short", ("while left > 0 {",)),
     Row("finds the live marks rounds short, by definition", "ppda/too_few_rounds",

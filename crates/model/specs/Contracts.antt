@@ -4,7 +4,8 @@ use mathlib.Core.List.{List}
 use mathlib.Core.Path.{_≡_}
 use lib.ListN.{length}
 use Rattle.model.specs.declared.sizes.Sizes.{Sizes}
-use Rattle.model.specs.Records.{statesOf, symbolsOf, recordsOf, stateNamed, symbolNamed}
+use Rattle.model.specs.Records.{statesOf, symbolsOf, recordsOf, stateNamed, symbolNamed, key}
+use Rattle.model.specs.Numbers.{Digits, keyBases, keyNumber}
 use Rattle.model.specs.Accepted.{ModelFile}
 use Rattle.model.specs.Rules.{rowOf}
 use Rattle.walks.specs.Sums.{greatestTo}
@@ -47,3 +48,8 @@ pub record SizesTo (b : List ℕ) (i : ℕ) (n : Sizes) : Type 0 where
 -- Record i is whole in the file.
 abbrev pub HasRecord : List ℕ → ℕ → Type 0
 HasRecord b i = recordBytes * (i + 1) ≤ length b
+
+-- n is the number of record i, whose bytes are digits.
+pub record Numbered (b : List ℕ) (i n : ℕ) : Type 0 where
+  pub digits : Digits keyBases (key b i)
+  pub number : n ≡ keyNumber (key b i)

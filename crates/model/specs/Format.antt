@@ -27,6 +27,10 @@ underByte = 5
 abbrev pub weightByte : ℕ
 weightByte = 6
 
+-- What a byte counts to, and so the base to which the bytes of two records are compared as one number each (request A.4).
+abbrev pub keyBase : ℕ
+keyBase = 256
+
 -- At most 1,024 records, so 10,240 bytes.
 abbrev pub mostRecords : ℕ
 mostRecords = 1024

@@ -18,6 +18,9 @@ pub const UNDER_BYTE: usize = 5;
 
 pub const WEIGHT_BYTE: usize = 6;
 
+// The base to which the bytes of a record are one number, by which records are compared.
+pub const KEY_BASE: u64 = 256;
+
 // The bytes of the longest file.
 pub const MOST_BYTES: usize = 10240;
 

@@ -1,5 +1,7 @@
--- The laws of the verdict on a model file: what acceptance means, the place of a refusal, and the verdict and the rows' sums step by step.
+-- The laws of the verdict on a model file: what acceptance means, the place of a refusal, the order of records by their numbers, and the
+-- verdict and the rows' sums step by step.
 pub mod Accepted
 pub mod Places
+pub mod Order
 pub mod Verdict
 pub mod Sums

@@ -1,61 +1,78 @@
 -- The verdict step by step, as the code finds it.
-use Prim.Native.Nat.{ℕ, zero, suc, _+_, _-_, _<_}
-use native.Mathlib.Omega.{arith}
-use mathlib.Core.Bool.{true, false}
-use mathlib.Core.List.{List}
-use mathlib.Core.Path.{_≡_, _∙_}
+use Prim.Native.Nat.{ℕ}
+use native.Mathlib.Nat.{pos-of-ne-zero}
+use mathlib.Core.Bool.{true, false, not, _&&_}
+use mathlib.Core.List.{List, [], _∷_, _++_}
+use mathlib.Core.Path.{_≡_, refl, sym, ap, _∙_}
+use lib.Dec.{eqb}
 use lib.IntN.{pos}
 use lib.ListN.{length}
-use borrow.Author.Tests.{eq-eqb, ne-eqb}
+use borrow.Author.Tests.{eq-eqb, ne-eqb, lt-ltb}
 use Rattle.outcome.specs.declared.Outcome.{Outcome}
 use Rattle.outcome.specs.declared.Outcome.the-variants.{Accepted, Refused}
 use Rattle.outcome.specs.declared.Reason.the-variants.{ModelLength, OutOfRange, UnusedNotZero, WeightOutOfRange, NotAscending, RowSumWrong}
-use Rattle.outcome.specs.Tests.{first}
+use Rattle.outcome.specs.Tests.{plain, first}
 use Rattle.walks.specs.Lists.{each}
 use Rattle.outcome.proofs.Tests.{first-fails, first-passes, first-after, first-stands}
 use Rattle.ppda.specs.Units.{weightUnit}
-use Rattle.model.specs.Records.{recordsOf, symbolsOf, key}
+use Rattle.model.specs.Records.{recordsOf, symbolsOf, pushes, top, under}
 use Rattle.model.specs.Rules.{rowSum}
-use Rattle.wellformed.specs.Verdict.{wholeRecords, rangeAt, unusedAt, weightAt, above, ascends, recordTests, rowTests, rowsTests, modelTests, modelVerdict}
+use Rattle.wellformed.specs.Verdict.{wholeRecords, rangeAt, unusedAt, weightAt, ascends, recordTests, rowTests, rowsTests, modelTests, modelVerdict}
+use Rattle.wellformed.specs.Contracts.{ownTests}
 
--- The first record has none before it.
-pub ascends-first : (b : List ℕ) (i : ℕ) → i ≡ 0 → ascends b i ≡ true
-unfolding ascends
-ascends-first b i e = rw e
+-- What a record does not use by what it pushes: with two symbols nothing, with none Y and X, and otherwise X.
+module _ (b : List ℕ) (i : ℕ) {l y x : ℕ} (reads : l ≡ pushes b i) (reads-top : y ≡ top b i) (reads-under : x ≡ under b i) where
+  pub unused-of-two : l ≡ 2 → unusedAt b i ≡ true
+  unfolding unusedAt
+  unused-of-two e = rw (sym reads ∙ e)
 
--- Any other is compared with the one before.
-pub ascends-after : (b : List ℕ) (i : ℕ) → 0 < i → ascends b i ≡ above (key b (i - 1 + 1)) (key b (i - 1))
-unfolding ascends
-ascends-after b zero h = absurd (omega arith)
-ascends-after b (suc i) h =
-    let e : suc i - 1 + 1 ≡ suc i = omega arith in
-    let d : suc i - 1 ≡ i = omega arith in
-    rw (e, d)
+  pub unused-of-none : l ≡ 0 → unusedAt b i ≡ (eqb y 0 && eqb x 0)
+  unfolding unusedAt
+  unused-of-none e = rw (sym reads ∙ e, reads-top, reads-under)
 
--- The outcome of a record by its tests, in their order.
+  pub unused-of-others : (l ≡ 2 → ⊥) → (l ≡ 0 → ⊥) → unusedAt b i ≡ eqb x 0
+  unfolding unusedAt
+  unused-of-others two none =
+      rw (ne-eqb (pushes b i) 2 (λ e. two (reads ∙ e)), lt-ltb 0 (pushes b i) (pos-of-ne-zero (λ e. none (reads ∙ e))), reads-under)
+
+-- The outcome of a record by its own tests, in their order.
 module _ (b : List ℕ) (i : ℕ) where
-  pub range-fails : rangeAt b i ≡ false → first (recordTests b i) ≡ Refused OutOfRange i (pos 0)
-  unfolding recordTests first
+  pub range-fails : rangeAt b i ≡ false → first (ownTests b i) ≡ Refused OutOfRange i (pos 0)
+  unfolding ownTests first
   range-fails r = rw r
 
-  pub unused-fails : rangeAt b i ≡ true → unusedAt b i ≡ false → first (recordTests b i) ≡ Refused UnusedNotZero i (pos 0)
-  unfolding recordTests first
+  pub unused-fails : rangeAt b i ≡ true → unusedAt b i ≡ false → first (ownTests b i) ≡ Refused UnusedNotZero i (pos 0)
+  unfolding ownTests first
   unused-fails r u = rw (r, u)
 
   pub weight-fails : rangeAt b i ≡ true → unusedAt b i ≡ true → weightAt b i ≡ false
-      → first (recordTests b i) ≡ Refused WeightOutOfRange i (pos 0)
-  unfolding recordTests first
+      → first (ownTests b i) ≡ Refused WeightOutOfRange i (pos 0)
+  unfolding ownTests first
   weight-fails r u w = rw (r, u, w)
 
-  pub order-fails : rangeAt b i ≡ true → unusedAt b i ≡ true → weightAt b i ≡ true → ascends b i ≡ false
-      → first (recordTests b i) ≡ Refused NotAscending i (pos 0)
-  unfolding recordTests first
-  order-fails r u w a = rw (r, u, w, a)
+  pub own-pass : rangeAt b i ≡ true → unusedAt b i ≡ true → weightAt b i ≡ true → first (ownTests b i) ≡ Accepted
+  unfolding ownTests first
+  own-pass r u w = rw (r, u, w)
 
-  pub record-passes : rangeAt b i ≡ true → unusedAt b i ≡ true → weightAt b i ≡ true → ascends b i ≡ true
-      → first (recordTests b i) ≡ Accepted
-  unfolding recordTests first
-  record-passes r u w a = rw (r, u, w, a)
+-- The outcome of a record by its own tests and then by its order.
+module _ (b : List ℕ) (i : ℕ) where
+  order-last : recordTests b i ≡ ownTests b i ++ (plain (not (ascends b i)) NotAscending i ∷ [])
+  unfolding recordTests ownTests
+  order-last = refl
+
+  pub own-decide : (first (ownTests b i) ≡ Accepted → ⊥) → first (recordTests b i) ≡ first (ownTests b i)
+  own-decide n = ap first order-last ∙ first-stands (ownTests b i) _ n
+
+  order-decides : first (ownTests b i) ≡ Accepted → first (recordTests b i) ≡ first (plain (not (ascends b i)) NotAscending i ∷ [])
+  order-decides own = ap first order-last ∙ first-after (ownTests b i) _ own
+
+  pub order-fails : first (ownTests b i) ≡ Accepted → ascends b i ≡ false → first (recordTests b i) ≡ Refused NotAscending i (pos 0)
+  unfolding first
+  order-fails own a = order-decides own ∙ rw a
+
+  pub record-passes : first (ownTests b i) ≡ Accepted → ascends b i ≡ true → first (recordTests b i) ≡ Accepted
+  unfolding first
+  record-passes own a = order-decides own ∙ rw a
 
 -- The outcome of a row by its sum.
 module _ (b : List ℕ) (k : ℕ) where

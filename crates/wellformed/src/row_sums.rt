@@ -6,7 +6,6 @@ use model::record::symbol;
 use model::record::weight;
 use model::sizes::Sizes;
 use model::sizes::records;
-use model::sizes::sizes_of;
 use outcome::Outcome;
 use outcome::Reason;
 use outcome::refused;
@@ -48,11 +47,10 @@ fn sum_of_row(model: &[u8], n: Sizes, k: usize, i: usize) -> SummedRow
 }
 
 // The tests of the rows, in their order.
-pub(crate) fn check(model: &[u8]) -> Outcome
-    requires { ⌜ RecordsRight (now model) × Ascending (now model) ⌝ }
+pub(crate) fn check(model: &[u8], n: Sizes) -> Outcome
+    requires { ⌜ RecordsRight (now model) × Ascending (now model) × (n ≡ sizesOf (now model)) ⌝ }
     ensures { λ r. ⌜ r ≡ first (rowsTests (now (model .entry))) ⌝ }
 {
-    let n = sizes_of(model);
     let rows = n.rows();
     let mut next = 0;
     let mut k = 0;

@@ -8,6 +8,7 @@ use borrow.Author.Tests.{not-true, not-false}
 use borrow.Author.Needs.{needs}
 use Rattle.outcome.specs.declared.Outcome.the-variants.{Accepted}
 use Rattle.outcome.proofs.Tests.{refusal-not-accepted}
+use Rattle.model.proofs.Records.{sizes-all}
 use Rattle.wellformed.specs.Verdict.{wholeRecords}
 use Rattle.model.specs.Records.{recordsOf}
 use Rattle.wellformed.proofs.Verdict.{recordsOutcome, length-decides, records-decide, rows-decide}
@@ -20,8 +21,8 @@ whole : (c : tie.Else1) → wholeRecords (length (now (c .before .before .before
 whole c = sym (c .before .whole-records .ensures) ∙ not-false _ (c .if1 .left)
 
 -- What is found is the outcome of all records.
-found : (c : tie.After-check-records) → c .check-records .result ≡ recordsOutcome (now (c .before .before .before .before .before .args .model))
-found c = c .check-records .ensures ∙ rw (c .before .records .ensures)
+found : (c : tie.After-check-records) → c .check-records .result .found ≡ recordsOutcome (now (c .before .before .before .before .before .args .model))
+found c = c .check-records .ensures .0 ∙ rw (c .before .records .ensures)
 
 -- Past the second test every record has passed.
 passed : (c : tie.After-enum-told2) → recordsOutcome (now (c .before .before .before .before .before .before .before .args .model)) ≡ Accepted
@@ -56,7 +57,12 @@ enum-told-2 : tie.Need-enum-told-2
 enum-told-2 c = search needs
 
 check-requires : tie.Need-check-requires
-check-requires c κs = (records-right _ (whole (c .before .before .before .before)) (passed c), records-ascend _ (passed c))
+check-requires c κs =
+    let walked = c .before .before in (
+      records-right _ (whole (walked .before .before)) (passed c),
+      records-ascend _ (passed c),
+      sizes-all (rw (walked .before .records .ensures) at (walked .check-records .ensures .1 (c .enum-told2 .given .1))),
+    )
 
 returns-3 : tie.Need-returns-3
 returns-3 c = c .check .ensures ∙ sym (rows-decide _ (whole (c .before .before .before .before .before)) (passed (c .before)))

@@ -1,22 +1,10 @@
--- `ascends`: the first record has none before it, and any other is compared with the one before.
-use native.Mathlib.Nat.{pos-of-ne-zero}
-use mathlib.Core.Path.{sym, _∙_}
-use borrow.Author.Needs.{needs}
-use Rattle.wellformed.proofs.Verdict.{ascends-first, ascends-after}
+-- `ascends`: the tests are that the record is the first, or has the greater number.
+use Rattle.wellformed.proofs.Order.{first-or-greater, order-told}
 use Rattle.wellformed.proofs.record.ascends.Statement.{statement}
 use Rattle.wellformed.proofs.record.ascends.Tie as tie
 
 returns : tie.Need-returns
-returns c = sym (ascends-first _ _ (c .if1 .taken))
-
-sub-lies-above : tie.Need-sub-lies-above
-sub-lies-above c = search needs
-
-lies-above-requires : tie.Need-lies-above-requires
-lies-above-requires c κs = search needs
-
-returns-2 : tie.Need-returns-2
-returns-2 c = c .lies-above .ensures ∙ sym (ascends-after _ _ (pos-of-ne-zero (c .before .if1 .left)))
+returns c = order-told _ _ _ _ (first-or-greater _ _ _)
 
 pub ascends-spec : {M : Type 1} → statement M
-ascends-spec = tie.close (tie.spec returns sub-lies-above lies-above-requires returns-2)
+ascends-spec = tie.close (tie.spec returns)

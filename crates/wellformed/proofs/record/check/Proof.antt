@@ -4,8 +4,8 @@ use mathlib.Core.Path.{_≡_, sym, _∙_}
 use denote.Ref.{now}
 use borrow.Author.Tests.{not-true, not-false}
 use borrow.Author.Needs.{needs}
-use Rattle.wellformed.specs.Verdict.{rangeAt, unusedAt, weightAt, ascends}
-use Rattle.wellformed.proofs.Verdict.{range-fails, unused-fails, weight-fails, order-fails, record-passes}
+use Rattle.wellformed.specs.Verdict.{rangeAt, unusedAt, weightAt}
+use Rattle.wellformed.proofs.Verdict.{range-fails, unused-fails, weight-fails, own-pass}
 use Rattle.wellformed.proofs.record.check.Statement.{statement}
 use Rattle.wellformed.proofs.record.check.Tie as tie
 
@@ -18,9 +18,6 @@ unused c = sym (c .before .unused-zero .ensures) ∙ not-false _ (c .if2 .left)
 
 weighs : (c : tie.Else3) → let args = c .before .before .before .before .before .before .before .args in weightAt (now (args .model)) (args .i) ≡ true
 weighs c = sym (c .before .weight-in-range .ensures) ∙ not-false _ (c .if3 .left)
-
-order : (c : tie.Else4) → let args = c .before .before .before .before .before .before .before .before .before .args in ascends (now (args .model)) (args .i) ≡ true
-order c = sym (c .before .ascends .ensures) ∙ not-false _ (c .if4 .left)
 
 in-range-requires : tie.Need-in-range-requires
 in-range-requires c κs = search needs
@@ -54,20 +51,8 @@ returns-3 c =
     rw (weight-fails _ _ (range (c .before .before .before .before .before)) (unused (c .before .before .before))
     (sym (c .before .before .weight-in-range .ensures) ∙ not-true _ (c .before .if3 .taken))) (c .refused3 .ensures)
 
-ascends-requires : tie.Need-ascends-requires
-ascends-requires c κs = search needs
-
-refused-requires-4 : tie.Need-refused-requires-4
-refused-requires-4 c κs = search needs
-
 returns-4 : tie.Need-returns-4
-returns-4 c =
-    rw (order-fails _ _ (range (c .before .before .before .before .before .before .before)) (unused (c .before .before .before .before .before)) (weighs (c .before .before .before))
-    (sym (c .before .before .ascends .ensures) ∙ not-true _ (c .before .if4 .taken))) (c .refused4 .ensures)
-
-returns-5 : tie.Need-returns-5
-returns-5 c =
-    sym (record-passes _ _ (range (c .before .before .before .before .before .before)) (unused (c .before .before .before .before)) (weighs (c .before .before)) (order c))
+returns-4 c = sym (own-pass _ _ (range (c .before .before .before .before)) (unused (c .before .before)) (weighs c))
 
 pub check-spec : {M : Type 1} → statement M
 check-spec =
@@ -82,7 +67,4 @@ check-spec =
     weight-in-range-requires
     refused-requires-3
     returns-3
-    ascends-requires
-    refused-requires-4
-    returns-4
-    returns-5)
+    returns-4)

@@ -32,32 +32,27 @@ abbrev μ-loop : tie.MeasureT-loop
 
 -- The sum found is that of row k.
 sum-found : (c : tie.After-sum-of-row Inv-loop μ-loop)
-    → let model = now (c .before .before .before .before .before .before .args .model) in
+    → let model = now (c .before .before .before .before .before .args .model) in
     c .sum-of-row .result .sum ≡ rowSum model (symbolsOf model) (c .before .before .loop .k)
 sum-found c =
+    let start = c .before .before .before .before .before in
     c .sum-of-row .ensures .0
-    ∙ ap (λ (n : Sizes). rowSum (now (c .before .before .before .before .before .before .args .model)) (n .symbols) (c .before .before .loop .k)) (c .before .before .before .before .sizes-of .ensures .0)
-
-sizes-of-requires : tie.Need-sizes-of-requires Inv-loop μ-loop
-sizes-of-requires c κs = search needs
+    ∙ ap (λ (n : Sizes). rowSum (now (start .args .model)) (n .symbols) (c .before .before .loop .k)) (start .pre .2)
 
 rows-requires : tie.Need-rows-requires Inv-loop μ-loop
-rows-requires c κs = rw (c .sizes-of .ensures .0) (sizes-fit _ (c .before .before .pre .0 .right))
+rows-requires c κs = rw (c .before .pre .2) (sizes-fit _ (c .before .pre .0 .right))
 
 loop-holds : tie.Need-loop-holds Inv-loop μ-loop
 loop-holds c = (
   search needs,
   c .rows .ensures .1,
-  c .rows .ensures .0 ∙ ap (λ (n : Sizes). rowsIn (n .states) (n .symbols)) (c .before .sizes-of .ensures .0),
+  c .rows .ensures .0 ∙ ap (λ (n : Sizes). rowsIn (n .states) (n .symbols)) (c .before .before .pre .2),
   each-none _,
   starts-first,
 )
 
 sum-of-row-requires : tie.Need-sum-of-row-requires Inv-loop μ-loop
-sum-of-row-requires c κs =
-    let begun = c .before .before .before in
-    let pre = begun .before .before .pre in
-    ((pre .0, pre .1, begun .sizes-of .ensures .0), c .before .loop .inv .4)
+sum-of-row-requires c κs = (c .before .before .before .before .pre, c .before .loop .inv .4)
 
 refused-requires : tie.Need-refused-requires Inv-loop μ-loop
 refused-requires c κs = search needs
@@ -94,7 +89,6 @@ check-spec =
     (tie.spec
     Inv-loop
     μ-loop
-    sizes-of-requires
     rows-requires
     loop-holds
     sum-of-row-requires
