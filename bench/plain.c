@@ -66,30 +66,22 @@ static uint64_t key(const uint8_t *r)
     return (uint64_t)r[0] << 40 | (uint64_t)r[1] << 32 | (uint64_t)r[2] << 24 | (uint64_t)r[3] << 16 | (uint64_t)r[4] << 8 | r[5];
 }
 
+static bool unused_zero(const uint8_t *r)
+{
+    if (r[3] == 0)
+        return r[4] == 0 && r[5] == 0;
+    return r[3] == 2 || r[5] == 0;
+}
+
 static enum reason check_rule(const uint8_t *r)
 {
-    if (r[0] > 7 || r[1] > 15 || r[2] > 7 || r[3] > 2 || r[4] > 15 || r[5] > 15)
+    if (r[0] > 7 || r[2] > 7 || r[1] > 15 || r[4] > 15 || r[5] > 15 || r[3] > 2)
         return OUT_OF_RANGE;
-    if ((r[3] == 0 && r[4] != 0) || (r[3] != 2 && r[5] != 0))
+    if (!unused_zero(r))
         return UNUSED_NOT_ZERO;
     if (weight(r) == 0 || weight(r) > CERTAIN)
         return WEIGHT_OUT_OF_RANGE;
     return ACCEPTED;
-}
-
-static struct outcome check_rules(const struct model *m)
-{
-    uint64_t before = 0;
-    for (size_t i = 0; i < m->records; i++) {
-        const uint8_t *r = rule(m, i);
-        enum reason reason = check_rule(r);
-        if (reason != ACCEPTED)
-            return refused(reason, i);
-        if (i > 0 && key(r) <= before)
-            return refused(NOT_ASCENDING, i);
-        before = key(r);
-    }
-    return accepted();
 }
 
 static size_t greater(size_t a, size_t b)
@@ -97,18 +89,28 @@ static size_t greater(size_t a, size_t b)
     return a < b ? b : a;
 }
 
-static void find_sizes(struct model *m)
+/* One pass: a record's number is formed once, for its test and for the next one's, and the sizes are found on the way. */
+static struct outcome check_rules(struct model *m)
 {
-    size_t state = 0, symbol = 0;
+    uint64_t before = 0;
+    size_t states = 1, symbols = 1;
     for (size_t i = 0; i < m->records; i++) {
         const uint8_t *r = rule(m, i);
-        state = greater(state, greater(r[0], r[2]));
-        symbol = greater(symbol, greater(r[1], greater(r[4], r[5])));
+        enum reason reason = check_rule(r);
+        if (reason != ACCEPTED)
+            return refused(reason, i);
+        uint64_t number = key(r);
+        if (i > 0 && number <= before)
+            return refused(NOT_ASCENDING, i);
+        before = number;
+        states = greater(states, greater(r[0], r[2]) + 1);
+        symbols = greater(symbols, greater(r[1], greater(r[4], r[5])) + 1);
     }
-    m->states = state + 1;
-    m->symbols = symbol + 1;
-    m->rows = m->states * m->symbols;
-    m->entries = m->rows * m->states;
+    m->states = states;
+    m->symbols = symbols;
+    m->rows = states * symbols;
+    m->entries = m->rows * states;
+    return accepted();
 }
 
 static size_t row_number(const struct model *m, size_t p, size_t z)
@@ -139,7 +141,6 @@ static struct outcome check_model(struct model *m, const uint8_t *file, size_t l
     struct outcome found = check_rules(m);
     if (found.reason != ACCEPTED)
         return found;
-    find_sizes(m);
     return check_row_sums(m);
 }
 

@@ -14,7 +14,7 @@ use Rattle.outcome.specs.declared.Reason.{Reason}
 use Rattle.outcome.specs.declared.Outcome.the-variants.{Accepted, Refused}
 use Rattle.outcome.specs.Tests.{Test, refusal, first, Passed, FirstFailure}
 use Rattle.walks.specs.Lists.{each}
-use Rattle.walks.proofs.Exactly.{lt-exactly, le-exactly, eq-exactly, both, or-exactly, not-exactly}
+use Rattle.walks.proofs.Exactly.{lt-exactly, le-exactly, eq-exactly, both, or-exactly, not-exactly, same-test}
 use Rattle.outcome.proofs.Tests.{accepted-exactly, refused-exactly, first-failure, passed-append, passed-each}
 use Rattle.ppda.specs.Units.{weightUnit}
 use Rattle.walks.specs.Order.{rowsIn, rowAt}
@@ -44,6 +44,17 @@ range-exactly b i =
     (both (ltb (target b i) mostStates) _ (lt-exactly (target b i) mostStates)
     (both (leb (pushes b i) mostPushes) _ (le-exactly (pushes b i) mostPushes)
     (both (ltb (top b i) mostSymbols) (ltb (under b i) mostSymbols) (lt-exactly (top b i) mostSymbols) (lt-exactly (under b i) mostSymbols)))))
+
+-- A test of the states, the symbols and the count, each kind together, tells the range.
+pub range-told : (b : List ℕ) (i : ℕ) (t : Bool) → (t ≡ true)
+    ↔ (((state b i < mostStates) × (target b i < mostStates))
+    × (((symbol b i < mostSymbols) × ((top b i < mostSymbols) × (under b i < mostSymbols))) × (pushes b i ≤ mostPushes)))
+    → t ≡ rangeAt b i
+range-told b i t told =
+    same-test t (rangeAt b i) (
+      λ e. let ((p, q), ((z, (y, x)), l)) = told .0 e in range-exactly b i .1 (p, (z, (q, (l, (y, x))))),
+      λ e. let (p, (z, (q, (l, (y, x))))) = range-exactly b i .0 e in told .1 ((p, q), ((z, (y, x)), l)),
+    )
 
 unused-tests : (l y x : ℕ) → (((ltb 0 l || eqb y 0) && (eqb l 2 || eqb x 0)) ≡ true) ↔ ((l ≡ 0 → y ≡ 0) × ((l ≡ 2 → ⊥) → x ≡ 0))
 unused-tests l y x = both (ltb 0 l || eqb y 0) (eqb l 2 || eqb x 0) top under

@@ -20,19 +20,19 @@ use Rattle.model.specs.Rules.{rowSum}
 use Rattle.wellformed.specs.Verdict.{wholeRecords, rangeAt, unusedAt, weightAt, ascends, recordTests, rowTests, rowsTests, modelTests, modelVerdict}
 use Rattle.wellformed.specs.Contracts.{ownTests}
 
--- What a record does not use by what it pushes: with two symbols nothing, with none Y and X, and otherwise X.
+-- What a record does not use by what it pushes: with no symbol Y and X, with two nothing, and otherwise X.
 module _ (b : List ℕ) (i : ℕ) {l y x : ℕ} (reads : l ≡ pushes b i) (reads-top : y ≡ top b i) (reads-under : x ≡ under b i) where
-  pub unused-of-two : l ≡ 2 → unusedAt b i ≡ true
-  unfolding unusedAt
-  unused-of-two e = rw (sym reads ∙ e)
-
   pub unused-of-none : l ≡ 0 → unusedAt b i ≡ (eqb y 0 && eqb x 0)
   unfolding unusedAt
   unused-of-none e = rw (sym reads ∙ e, reads-top, reads-under)
 
-  pub unused-of-others : (l ≡ 2 → ⊥) → (l ≡ 0 → ⊥) → unusedAt b i ≡ eqb x 0
+  pub unused-of-two : l ≡ 2 → unusedAt b i ≡ true
   unfolding unusedAt
-  unused-of-others two none =
+  unused-of-two e = rw (sym reads ∙ e)
+
+  pub unused-of-others : (l ≡ 0 → ⊥) → (l ≡ 2 → ⊥) → unusedAt b i ≡ eqb x 0
+  unfolding unusedAt
+  unused-of-others none two =
       rw (ne-eqb (pushes b i) 2 (λ e. two (reads ∙ e)), lt-ltb 0 (pushes b i) (pos-of-ne-zero (λ e. none (reads ∙ e))), reads-under)
 
 -- The outcome of a record by its own tests, in their order.

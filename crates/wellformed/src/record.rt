@@ -31,8 +31,9 @@ fn in_range(model: &[u8], i: usize) -> bool
     let l = pushes(model, i);
     let y = top(model, i);
     let x = under(model, i);
-    let pushed = (l <= MOST_PUSHES) & ((y < MOST_SYMBOLS) & (x < MOST_SYMBOLS));
-    (p < MOST_STATES) & ((z < MOST_SYMBOLS) & ((q < MOST_STATES) & pushed))
+    let states = (p < MOST_STATES) & (q < MOST_STATES);
+    let symbols = (z < MOST_SYMBOLS) & ((y < MOST_SYMBOLS) & (x < MOST_SYMBOLS));
+    states & (symbols & (l <= MOST_PUSHES))
 }
 
 // Whether the symbols that record i does not push are 0.
@@ -43,11 +44,11 @@ fn unused_zero(model: &[u8], i: usize) -> bool
     let l = pushes(model, i);
     let y = top(model, i);
     let x = under(model, i);
-    if l == 2 {
-        return true;
-    }
     if l == 0 {
         return (y == 0) & (x == 0);
+    }
+    if l == 2 {
+        return true;
     }
     x == 0
 }

@@ -1,6 +1,7 @@
--- `in_range`: the tests are the definition's.
-use Rattle.wellformed.specs.Verdict.{rangeAt}
+-- `in_range`: the tests are the definition's, each kind together.
 use borrow.Author.Needs.{needs}
+use Rattle.walks.proofs.Exactly.{lt-exactly, le-exactly, both}
+use Rattle.wellformed.proofs.Accepted.{range-told}
 use Rattle.wellformed.proofs.record.in_range.Statement.{statement}
 use Rattle.wellformed.proofs.record.in_range.Tie as tie
 
@@ -23,9 +24,9 @@ under-requires : tie.Need-under-requires
 under-requires c κs = search needs
 
 returns : tie.Need-returns
-unfolding rangeAt
 returns c =
     let read = c .before .before .before in
+    range-told _ _ _ (
     rw (
       c .under .ensures .0,
       c .before .top .ensures .0,
@@ -33,6 +34,9 @@ returns c =
       read .target .ensures .0,
       read .before .symbol .ensures .0,
       read .before .before .state .ensures .0,
+    )
+    (both _ _ (both _ _ (lt-exactly _ _) (lt-exactly _ _))
+    (both _ _ (both _ _ (lt-exactly _ _) (both _ _ (lt-exactly _ _) (lt-exactly _ _))) (le-exactly _ _)))
     )
 
 pub in-range-spec : {M : Type 1} → statement M

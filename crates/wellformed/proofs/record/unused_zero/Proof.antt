@@ -19,17 +19,17 @@ under-requires c κs = search needs
 returns : tie.Need-returns
 returns c =
     let read = c .before in
-    sym (unused-of-two _ _ (read .before .before .pushes .ensures .0) (read .before .top .ensures .0) (read .under .ensures .0) (c .if1 .taken))
-
-returns-2 : tie.Need-returns-2
-returns-2 c =
-    let read = c .before .before in
-    let tested = unused-of-none _ _ (read .before .before .pushes .ensures .0) (read .before .top .ensures .0) (read .under .ensures .0) (c .if2 .taken) in
+    let tested = unused-of-none _ _ (read .before .before .pushes .ensures .0) (read .before .top .ensures .0) (read .under .ensures .0) (c .if1 .taken) in
     rw tested (
     by-cases (eqb (read .before .top .result) 0)
     (λ y. by-cases (eqb (read .under .result) 0) (λ x. simp (y, x)) (λ x. simp (y, x)))
     (λ y. by-cases (eqb (read .under .result) 0) (λ x. simp (y, x)) (λ x. simp (y, x)))
     )
+
+returns-2 : tie.Need-returns-2
+returns-2 c =
+    let read = c .before .before in
+    sym (unused-of-two _ _ (read .before .before .pushes .ensures .0) (read .before .top .ensures .0) (read .under .ensures .0) (c .if2 .taken))
 
 returns-3 : tie.Need-returns-3
 returns-3 c =
