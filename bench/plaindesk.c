@@ -185,7 +185,7 @@ static void find_model(struct model *m)
 {
     m->file = held.model;
     m->records = held.model_len / RULE_BYTES;
-    find_sizes(m);
+    (void)check_rules(m); /* for the sizes: the records are accepted */
     find_starts(m);
 }
 

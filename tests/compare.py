@@ -82,6 +82,9 @@ def check_documented_edges():
         answer = checker.check_delivery(model, delivery)
         if any(want is not None and want != got for want, got in zip(wanted, answer)):
             sys.exit("edge %s: document 01 says %s, the checker %s" % (label, wanted, answer))
+    for label, model, wanted in generate.neighbours():
+        if checker.check_model(model) != wanted:
+            sys.exit("order of records, %s: document 01 says %s, the checker %s" % (label, wanted, checker.check_model(model)))
 
 
 def worth_judging(chosen, model, delivery):

@@ -118,6 +118,19 @@ def fourth_bytes(certain, loop):
     yield "mean %d" % (512 + 2**24), *filed(certain, [ONE], None, [512 + 2**24])
 
 
+# The order of records, field by field: of two records that are alike before the field, the one with more there has the least behind it.
+
+ORDERED = [((0, 15, 7, 2, 15, 15), (1, 0, 0, 0, 0, 0)), ((0, 0, 7, 2, 15, 15), (0, 1, 0, 0, 0, 0)), ((0, 0, 0, 2, 15, 15), (0, 0, 1, 0, 0, 0)),
+           ((0, 0, 0, 1, 15, 0), (0, 0, 0, 2, 0, 0)), ((0, 0, 0, 2, 0, 15), (0, 0, 0, 2, 1, 0)), ((0, 0, 0, 2, 0, 0), (0, 0, 0, 2, 0, 1))]
+
+
+def neighbours():
+    """(label, model, the answer): two records that ascend by one field, which 15 refuses, and the same two in the other order or one of them twice."""
+    for field, (low, high) in zip("pZqLYX", ORDERED):
+        for label, pair, answer in (("ascends", (low, high), (15, 0)), ("descends", (high, low), (14, 1)), ("stays", (high, high), (14, 1))):
+            yield "%s %s" % (field, label), model_file([(*record, 1) for record in pair]), answer
+
+
 # Random models.
 
 def random_weights(rng, count, favoured):
@@ -520,9 +533,9 @@ def family(rng):
 
 
 def cases(seed, count):
-    """`count` cases as (label, model, delivery): the edges of document 01 and the far ends first, then family after family."""
+    """`count` cases as (label, model, delivery): the edges of document 01, the far ends and the order of records first, then family after family."""
     rng, made = random.Random(seed), 0
-    for case in itertools.chain((edge[:3] for edge in documented_edges()), far_ends()):
+    for case in itertools.chain((edge[:3] for edge in documented_edges()), far_ends(), ((label, model, b"") for label, model, _ in neighbours())):
         if made < count:
             yield case
         made += 1

@@ -131,6 +131,31 @@ def equal_records_pass(before, rule):
     return before[:6] <= rule[:6]
 
 
+def by_number(*weights, limit=None):
+    """Compares records by a number with these weights of p, Z, q, L, Y and X, or by what a limit leaves of it."""
+    def number(rule):
+        whole = sum(weight * field for weight, field in zip(weights, rule))
+        return whole % limit if limit else whole
+    return {"ascends": lambda before, rule: number(before) < number(rule)}
+
+
+def to_base(base, *places):
+    """Compares records by a number to this base, each field at a place of its own or not."""
+    return by_number(*(base ** place for place in places))
+
+
+def unused_taken(length, field):
+    """Does not test that a symbol is 0 which rules of this length do not push."""
+    return {"record_reason": lambda rule, before: RIGHT["record_reason"](rule._replace(**{field: 0}) if rule.length == length else rule, before)}
+
+
+def range_taken(field, most):
+    """Does not test the range of a field, and goes on as if it were in range."""
+    def wrong(rule, before):
+        return RIGHT["record_reason"](rule._replace(**{field: min(most, getattr(rule, field))}), before)
+    return {"record_reason": wrong}
+
+
 def reasons_in_order(*order):
     """Tests a model's record for its reasons in another order."""
     harmless = checker.Rule(0, 0, 0, 0, 0, 0, 1)
@@ -207,6 +232,28 @@ MUTANTS = {
     "states counted from p only": {"sizes": states_from_p_only},
     "records compared by five bytes": {"ascends": five_bytes_ascend},
     "equal records pass": {"ascends": equal_records_pass},
+    "p and Z weighed alike": to_base(256, 4, 4, 3, 2, 1, 0),
+    "Z and q weighed alike": to_base(256, 4, 3, 3, 2, 1, 0),
+    "q and L weighed alike": to_base(256, 4, 3, 2, 2, 1, 0),
+    "L and Y weighed alike": to_base(256, 4, 3, 2, 1, 1, 0),
+    "Y and X weighed alike": to_base(256, 4, 3, 2, 1, 0, 0),
+    "p and Z exchanged in the number": to_base(256, 4, 5, 3, 2, 1, 0),
+    "Z and q exchanged in the number": to_base(256, 5, 3, 4, 2, 1, 0),
+    "q and L exchanged in the number": to_base(256, 5, 4, 2, 3, 1, 0),
+    "L and Y exchanged in the number": to_base(256, 5, 4, 3, 1, 2, 0),
+    "Y and X exchanged in the number": to_base(256, 5, 4, 3, 2, 0, 1),
+    "numbers to the base 15": to_base(15, 5, 4, 3, 2, 1, 0),
+    "numbers without p": by_number(*(256 ** place for place in (5, 4, 3, 2, 1, 0)), limit=2 ** 40),
+    "numbers of 32 bits": by_number(*(256 ** place for place in (5, 4, 3, 2, 1, 0)), limit=2 ** 32),
+    "Y taken where nothing is pushed": unused_taken(0, "y"),
+    "X taken where nothing is pushed": unused_taken(0, "x"),
+    "X taken where one symbol is pushed": unused_taken(1, "x"),
+    "p in any range": range_taken("p", 7),
+    "Z in any range": range_taken("z", 15),
+    "q in any range": range_taken("q", 7),
+    "L in any range": range_taken("length", 2),
+    "Y in any range": range_taken("y", 15),
+    "X in any range": range_taken("x", 15),
     "12 before 11": reasons_in_order(12, 11, 13, 14),
     "13 before 12": reasons_in_order(11, 13, 12, 14),
     "14 before 13": reasons_in_order(11, 12, 14, 13),
