@@ -1,6 +1,6 @@
 -- Records compared by their numbers (request A.4): where two lists have as many digits, each below its base, the one that lies above writes the
 -- greater number. So it is with any two records, whatever their bytes.
-use Prim.Native.Nat.{ℕ, zero, suc, _+_, _*_, _≤_, _<_}
+use Prim.Native.Nat.{ℕ, zero, suc, _+_, _*_, _<_}
 use native.Mathlib.Nat.{eq-or-lt-of-le}
 use native.Mathlib.Omega.{arith}
 use mathlib.Core.Bool.{Bool, true, false}

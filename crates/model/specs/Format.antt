@@ -27,7 +27,7 @@ underByte = 5
 abbrev pub weightByte : ℕ
 weightByte = 6
 
--- What a byte counts to, and so the base to which the bytes of two records are compared as one number each (request A.4).
+-- The base of the number by which records are compared, of which each byte is a digit (request A.4).
 abbrev pub keyBase : ℕ
 keyBase = 256
 

@@ -16,7 +16,7 @@ Digits [] (d ∷ ds) = ⊥
 Digits (b ∷ bs) [] = ⊥
 Digits (b ∷ bs) (d ∷ ds) = (d < b) × Digits bs ds
 
--- The number of a record's p, Z, q, L, Y and X, a byte each: six digits to the base 256, p first. It is below 2^48.
+-- The number of a record's p, Z, q, L, Y and X: six bytes as digits to the base 256, p first, and so below 2^48.
 abbrev pub keyBases : List ℕ
 keyBases = keyBase ∷ keyBase ∷ keyBase ∷ keyBase ∷ keyBase ∷ keyBase ∷ []
 

@@ -18,7 +18,7 @@ pub const UNDER_BYTE: usize = 5;
 
 pub const WEIGHT_BYTE: usize = 6;
 
-// The base to which the bytes of a record are one number, by which records are compared.
+// The base of the number by which records are compared, of which each byte is a digit.
 pub const KEY_BASE: u64 = 256;
 
 // The bytes of the longest file.

@@ -1,5 +1,5 @@
 -- The table of neighbouring records holds, by computation.
-use mathlib.Core.List.{List, map}
+use mathlib.Core.List.{map}
 use mathlib.Core.Path.{_≡_, refl}
 use Rattle.walks.specs.Lists.{each}
 use Rattle.walks.specs.Sums.{sumTo, greatestTo}
