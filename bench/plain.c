@@ -89,11 +89,31 @@ static size_t greater(size_t a, size_t b)
     return a < b ? b : a;
 }
 
+struct sizes {
+    size_t states, symbols;
+};
+
+/* The sizes of one record more. */
+static struct sizes with_rule(struct sizes n, const uint8_t *r)
+{
+    n.states = greater(n.states, greater(r[0], r[2]) + 1);
+    n.symbols = greater(n.symbols, greater(r[1], greater(r[4], r[5])) + 1);
+    return n;
+}
+
+static void set_sizes(struct model *m, struct sizes n)
+{
+    m->states = n.states;
+    m->symbols = n.symbols;
+    m->rows = n.states * n.symbols;
+    m->entries = m->rows * n.states;
+}
+
 /* One pass: a record's number is formed once, for its test and for the next one's, and the sizes are found on the way. */
 static struct outcome check_rules(struct model *m)
 {
     uint64_t before = 0;
-    size_t states = 1, symbols = 1;
+    struct sizes n = {1, 1};
     for (size_t i = 0; i < m->records; i++) {
         const uint8_t *r = rule(m, i);
         enum reason reason = check_rule(r);
@@ -103,13 +123,9 @@ static struct outcome check_rules(struct model *m)
         if (i > 0 && number <= before)
             return refused(NOT_ASCENDING, i);
         before = number;
-        states = greater(states, greater(r[0], r[2]) + 1);
-        symbols = greater(symbols, greater(r[1], greater(r[4], r[5])) + 1);
+        n = with_rule(n, r);
     }
-    m->states = states;
-    m->symbols = symbols;
-    m->rows = states * symbols;
-    m->entries = m->rows * states;
+    set_sizes(m, n);
     return accepted();
 }
 

@@ -183,9 +183,12 @@ static void make_model(uint8_t *model, const uint8_t *counter, size_t records)
 
 static void find_model(struct model *m)
 {
+    struct sizes n = {1, 1};
     m->file = held.model;
     m->records = held.model_len / RULE_BYTES;
-    (void)check_rules(m); /* for the sizes: the records are accepted */
+    for (size_t i = 0; i < m->records; i++)
+        n = with_rule(n, rule(m, i));
+    set_sizes(m, n);
     find_starts(m);
 }
 

@@ -174,14 +174,17 @@ TABLE = [
         ("(Bytes e → Bytes d → let x = d in e ≡ x)", "λ bytes bytes′. same-bytes _ _ d right bytes bytes′ .0 (by .same))")),
 
     Row("weighs Y and X alike in a record's number", "model/top_and_under_weighed_alike",
-        ("    ((((p * KEY_BASE + z) * KEY_BASE + q) * KEY_BASE + l) * KEY_BASE + y) * 256 + x",)),
+        ("    KEY_BASE * ((((p * KEY_BASE + z) * KEY_BASE + q) * KEY_BASE + l) * KEY_BASE + y) + x",)),
+    # These two change the table of a record's number too, so that the theorem is what refuses them.
     Row("weighs Y and X alike in a record's number, by definition", "model/top_and_under_weighed_alike_by_definition",
         ("keyBases = keyBase ∷ keyBase ∷ keyBase ∷ keyBase ∷ keyBase ∷ 256 ∷ []",
-         "    ((((p * KEY_BASE + z) * KEY_BASE + q) * KEY_BASE + l) * KEY_BASE + y) * 256 + x")),
+         "    KEY_BASE * ((((p * KEY_BASE + z) * KEY_BASE + q) * KEY_BASE + l) * KEY_BASE + y) + x",
+         "pub number-read : keyNumber (key recordsFile 0) ≡ 256 ^ 5 + 5 * 256 ^ 4 + 3 * 256 ^ 3 + 2 * 256 ^ 2 + 9 * 256 + 7")),
     Row("forms a record's number to the base 255", "model/base_255", ("pub const KEY_BASE: u64 = 0x100;",)),
     Row("forms a record's number to the base 255, by definition", "model/base_255_by_definition",
-        ("keyBase = (256)", "pub const KEY_BASE: u64 = 0x100;")),
-    Row("takes equal numbers as ascending", "wellformed/equal_numbers_taken", ("    (i == 0) | (number > before)",)),
+        ("keyBase = (256)", "pub const KEY_BASE: u64 = 0x100;",
+         "pub number-read : keyNumber (key recordsFile 0) ≡ 256 ^ 5 + 5 * 256 ^ 4 + 3 * 256 ^ 3 + 2 * 256 ^ 2 + 9 * 256 + 7")),
+    Row("takes equal numbers as ascending", "wellformed/equal_numbers_taken", ("    (before < number) | (i == 0)",)),
     Row("does not keep the number of the record before", "wellformed/number_before_not_kept", ("        let last = number; before = last;",)),
     Row("does not test X where nothing is pushed", "wellformed/unused_x_not_tested", ("        return (x == 0) & (y == 0);",)),
 

@@ -6,7 +6,7 @@ use native.Mathlib.Omega.{arith}
 use mathlib.Core.Bool.{Bool, true, false}
 use mathlib.Core.List.{List, [], _∷_}
 use mathlib.Core.Logic.{_↔_, Iff·trans, _⊎_, inl, inr}
-use mathlib.Core.Path.{_≡_, refl}
+use mathlib.Core.Path.{_≡_, refl, _∙_}
 use lib.Dec.{ltb}
 use lib.ListN.{length, replicate}
 use borrow.Author.Tests.{ltb-true, ltb-false}
@@ -67,11 +67,14 @@ numerals-exactly bs xs ys hx hy = Iff·trans (numerals-behind bs xs ys 0 0 hx hy
 
 -- ---- six bytes
 
+below : {x : ℕ} → x < 256 → x < keyBase
+below h = omega arith
+
 bytes-are-digits : (n : ℕ) (xs : List ℕ) → length xs ≡ n → Bytes xs → Digits (replicate n keyBase) xs
 bytes-are-digits zero [] e h = tt
 bytes-are-digits zero (x ∷ xs) e h = absurd (omega (arith, e))
 bytes-are-digits (suc n) [] e h = absurd (omega (arith, e))
-bytes-are-digits (suc n) (x ∷ xs) e h = (h .byte 0, bytes-are-digits n xs (omega (arith, e)) (record { byte = λ i. h .byte (suc i) }))
+bytes-are-digits (suc n) (x ∷ xs) e h = (below (h .byte 0), bytes-are-digits n xs (omega (arith, e)) (record { byte = λ i. h .byte (suc i) }))
 
 -- The theorem of request A.4, over any two lists of six bytes.
 pub number-exactly : (xs ys : List ℕ) → length xs ≡ 6 → length ys ≡ 6 → Bytes xs → Bytes ys → (keyNumber ys < keyNumber xs) ↔ Above xs ys
@@ -80,13 +83,14 @@ number-exactly xs ys ex ey hx hy = numerals-exactly keyBases xs ys (bytes-are-di
 -- So of record i of one file and record j of another, or of the same.
 record-digits : (b : List ℕ) (i : ℕ) → Bytes b → Digits keyBases (key b i)
 unfolding field
-record-digits b i h = (h .byte _, (h .byte _, (h .byte _, (h .byte _, (h .byte _, (h .byte _, tt))))))
+record-digits b i h = (below (h .byte _), (below (h .byte _), (below (h .byte _), (below (h .byte _), (below (h .byte _), (below (h .byte _), tt))))))
 
 pub records-by-number : (b c : List ℕ) (i j : ℕ) → Bytes b → Bytes c → (keyNumber (key c j) < keyNumber (key b i)) ↔ Above (key b i) (key c j)
 records-by-number b c i j hb hc = numerals-exactly keyBases (key b i) (key c j) (record-digits b i hb) (record-digits c j hc)
 
 -- The number of record i as it is worked out of the fields that were read.
-pub number-of-fields : (b : List ℕ) (i : ℕ) {p z q l y x : ℕ} → p ≡ state b i → z ≡ symbol b i → q ≡ target b i → l ≡ pushes b i → y ≡ top b i → x ≡ under b i
-    → ((((p * keyBase + z) * keyBase + q) * keyBase + l) * keyBase + y) * keyBase + x ≡ keyNumber (key b i)
+pub number-of-fields : (b : List ℕ) (i : ℕ) {p z q l y x n : ℕ} → p ≡ state b i → z ≡ symbol b i → q ≡ target b i → l ≡ pushes b i → y ≡ top b i → x ≡ under b i
+    → n ≡ ((((p * keyBase + z) * keyBase + q) * keyBase + l) * keyBase + y) * keyBase + x → n ≡ keyNumber (key b i)
 unfolding numeral
-number-of-fields b i hp hz hq hl hy hx = let e : 0 * keyBase + state b i ≡ state b i = omega arith in rw (hp, hz, hq, hl, hy, hx, e)
+number-of-fields b i hp hz hq hl hy hx worked =
+    let e : 0 * keyBase + state b i ≡ state b i = omega arith in worked ∙ rw (hp, hz, hq, hl, hy, hx, e)

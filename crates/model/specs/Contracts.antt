@@ -1,11 +1,10 @@
--- What functions over a model file ask: its sizes and records, where a row starts, and that it is accepted.
+-- What functions over a model file ask or tell: its sizes and records, where a row starts, and that it is accepted.
 use Prim.Native.Nat.{ℕ, suc, _≤_, _<_, _+_, _*_}
 use mathlib.Core.List.{List}
 use mathlib.Core.Path.{_≡_}
 use lib.ListN.{length}
 use Rattle.model.specs.declared.sizes.Sizes.{Sizes}
-use Rattle.model.specs.Records.{statesOf, symbolsOf, recordsOf, stateNamed, symbolNamed, key}
-use Rattle.model.specs.Numbers.{Digits, keyBases, keyNumber}
+use Rattle.model.specs.Records.{statesOf, symbolsOf, recordsOf, stateNamed, symbolNamed}
 use Rattle.model.specs.Accepted.{ModelFile}
 use Rattle.model.specs.Rules.{rowOf}
 use Rattle.walks.specs.Sums.{greatestTo}
@@ -38,7 +37,8 @@ pub record Narrow (s g : ℕ) : Type 0 where
   pub states : s < 65536
   pub symbols : g < 65536
 
--- n are the sizes of the first i records: one more than the greatest state and symbol that these name, and 1 of each where there are none.
+-- n are the sizes of the first i records, one more than the greatest state and symbol that these name, and 1 of each where there are none; neither
+-- is above 65,536.
 pub record SizesTo (b : List ℕ) (i : ℕ) (n : Sizes) : Type 0 where
   pub states : n .states ≡ suc (greatestTo (stateNamed b) i)
   pub symbols : n .symbols ≡ suc (greatestTo (symbolNamed b) i)
@@ -48,8 +48,3 @@ pub record SizesTo (b : List ℕ) (i : ℕ) (n : Sizes) : Type 0 where
 -- Record i is whole in the file.
 abbrev pub HasRecord : List ℕ → ℕ → Type 0
 HasRecord b i = recordBytes * (i + 1) ≤ length b
-
--- n is the number of record i, whose bytes are digits.
-pub record Numbered (b : List ℕ) (i n : ℕ) : Type 0 where
-  pub digits : Digits keyBases (key b i)
-  pub number : n ≡ keyNumber (key b i)

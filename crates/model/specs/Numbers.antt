@@ -3,7 +3,8 @@ use Prim.Native.Nat.{ℕ, _+_, _*_, _<_}
 use mathlib.Core.List.{List, [], _∷_}
 use Rattle.model.specs.Format.{keyBase}
 
--- The number that digits write behind n, read from the left, each digit to its own base: what stands before a digit is taken as often as its base says.
+-- The number that digits write behind n, read from the left, each digit to its own base: what stands before a digit is taken as often as its base
+-- says. It ends where there is no further digit or base.
 unfoldable pub numeral : ℕ → List ℕ → List ℕ → ℕ
 numeral n [] ds = n
 numeral n (b ∷ bs) [] = n
@@ -16,9 +17,10 @@ Digits [] (d ∷ ds) = ⊥
 Digits (b ∷ bs) [] = ⊥
 Digits (b ∷ bs) (d ∷ ds) = (d < b) × Digits bs ds
 
--- The number of a record's p, Z, q, L, Y and X: six bytes as digits to the base 256, p first, and so below 2^48.
+-- The bases of p, Z, q, L, Y and X.
 abbrev pub keyBases : List ℕ
 keyBases = keyBase ∷ keyBase ∷ keyBase ∷ keyBase ∷ keyBase ∷ keyBase ∷ []
 
+-- The number of a record by its key: p, Z, q, L, Y and X, a byte each, as digits to the base 256, p first.
 abbrev pub keyNumber : List ℕ → ℕ
 keyNumber k = numeral 0 keyBases k

@@ -12,13 +12,14 @@ use super::format::WEIGHT_BYTE;
 ghost use mathlib.Core.Path.{_≡_};
 ghost use Prim.Native.Nat.{_<_, _^_};
 ghost use Rattle.model.specs.Format.{recordBytes};
-ghost use Rattle.model.specs.Records.{field, state, symbol, target, pushes, top, under, weight};
-ghost use Rattle.model.specs.Contracts.{HasRecord, Numbered};
+ghost use Rattle.model.specs.Records.{field, state, symbol, target, pushes, top, under, weight, key};
+ghost use Rattle.model.specs.Numbers.{keyNumber};
+ghost use Rattle.model.specs.Contracts.{HasRecord};
 
 // Byte k of record i.
-pub fn field(model: &[u8], i: usize, k: usize) -> usize
+fn field(model: &[u8], i: usize, k: usize) -> usize
     requires { ⌜ HasRecord (now model) i × (k < recordBytes) ⌝ }
-    ensures { λ r. ⌜ (r ≡ field (now (model .entry)) i k) × (r < 256) ⌝ }
+    ensures { λ r. ⌜ (r ≡ field (now (model .entry)) i k) × (r < 65536) ⌝ }
 {
     words::byte(model, RECORD_BYTES * i + k)
 }
@@ -79,16 +80,16 @@ pub fn weight(model: &[u8], i: usize) -> u64
     words::word(model, RECORD_BYTES * i + WEIGHT_BYTE)
 }
 
-// The number of record i, by which records are compared (request A.4): its bytes but those of the weight as digits, p first.
+// The number of record i, by which records are compared (request A.4): what it says but its weight as digits, p first.
 pub fn key_number(model: &[u8], i: usize) -> u64
     requires { ⌜ HasRecord (now model) i ⌝ }
-    ensures { λ r. ⌜ Numbered (now (model .entry)) i r ⌝ }
+    ensures { λ r. ⌜ r ≡ keyNumber (key (now (model .entry)) i) ⌝ }
 {
-    let p = field(model, i, STATE_BYTE) as u64;
-    let z = field(model, i, SYMBOL_BYTE) as u64;
-    let q = field(model, i, TARGET_BYTE) as u64;
-    let l = field(model, i, PUSHES_BYTE) as u64;
-    let y = field(model, i, TOP_BYTE) as u64;
-    let x = field(model, i, UNDER_BYTE) as u64;
+    let p = state(model, i) as u64;
+    let z = symbol(model, i) as u64;
+    let q = target(model, i) as u64;
+    let l = pushes(model, i) as u64;
+    let y = top(model, i) as u64;
+    let x = under(model, i) as u64;
     ((((p * KEY_BASE + z) * KEY_BASE + q) * KEY_BASE + l) * KEY_BASE + y) * KEY_BASE + x
 }

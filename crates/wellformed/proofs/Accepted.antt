@@ -34,7 +34,7 @@ whole-exactly : (n : ℕ) → (wholeRecords n ≡ true) ↔ ((0 < n) × ((n % re
 unfolding wholeRecords
 whole-exactly n = both (ltb 0 n) _ (lt-exactly 0 n) (both (eqb (n % recordBytes) 0) _ (eq-exactly (n % recordBytes) 0) (le-exactly n mostBytes))
 
-range-exactly : (b : List ℕ) (i : ℕ) → (rangeAt b i ≡ true)
+pub range-exactly : (b : List ℕ) (i : ℕ) → (rangeAt b i ≡ true)
     ↔ ((state b i < mostStates) × ((symbol b i < mostSymbols) × ((target b i < mostStates)
     × ((pushes b i ≤ mostPushes) × ((top b i < mostSymbols) × (under b i < mostSymbols))))))
 unfolding rangeAt

@@ -3,21 +3,33 @@ use Prim.Native.Nat.{ℕ, zero, suc, _+_, _<_}
 use native.Mathlib.Nat.{pos-of-ne-zero}
 use native.Mathlib.Numerals.{add-one}
 use native.Mathlib.Omega.{arith}
-use mathlib.Core.Bool.{Bool, true, _||_}
+use mathlib.Core.Bool.{Bool, true, false}
 use mathlib.Core.List.{List}
 use mathlib.Core.Logic.{_↔_}
 use mathlib.Core.Path.{_≡_, sym}
-use lib.Dec.{eqb, ltb}
-use borrow.Author.Tests.{ltb-true, eqb-false, lt-ltb, ne-eqb}
-use Rattle.walks.proofs.Exactly.{or-exactly, same-test}
+use lib.Dec.{eqb}
+use borrow.Author.Tests.{eqb-false, ne-eqb, not-false}
+use Rattle.walks.proofs.Exactly.{same-test}
+use Rattle.outcome.specs.declared.Outcome.the-variants.{Accepted}
+use Rattle.outcome.specs.Tests.{first}
+use Rattle.outcome.proofs.Tests.{accepted-exactly, by-cases}
 use Rattle.model.specs.Records.{key}
-use Rattle.model.specs.Numbers.{keyBases}
+use Rattle.model.specs.Numbers.{Digits, keyBases, keyNumber}
 use Rattle.model.specs.Accepted.{Above}
-use Rattle.model.specs.Contracts.{Numbered}
 use Rattle.model.proofs.Numbers.{numerals-exactly}
 use Rattle.wellformed.specs.Verdict.{above, ascends}
-use Rattle.wellformed.specs.Contracts.{NumberedBefore, TellsOrder}
-use Rattle.wellformed.proofs.Accepted.{above-exactly}
+use Rattle.wellformed.specs.Contracts.{ownTests, Numbered, NumberedBefore, TellsOrder}
+use Rattle.wellformed.proofs.Accepted.{range-exactly, above-exactly}
+
+-- The fields of a record that has passed its own tests are in range, and so each is below its base.
+own-digits : (b : List ℕ) (i : ℕ) → first (ownTests b i) ≡ Accepted → Digits keyBases (key b i)
+unfolding ownTests
+own-digits b i own =
+    let (p, (z, (q, (l, (y, x))))) = range-exactly b i .0 (not-false _ (accepted-exactly (ownTests b i) .0 own .0)) in
+    (omega arith, (omega arith, (omega arith, (omega arith, (omega arith, (omega arith, tt))))))
+
+pub numbered : {b : List ℕ} {i n : ℕ} → first (ownTests b i) ≡ Accepted → n ≡ keyNumber (key b i) → Numbered b i n
+numbered {b} {i} own e = record { digits = own-digits b i own; number = e }
 
 -- Of two records with their numbers.
 by-numbers : {b : List ℕ} {i j m n : ℕ} → Numbered b i m → Numbered b j n → (n < m) ↔ Above (key b i) (key b j)
@@ -35,12 +47,16 @@ order-told (suc i) before number t told b hb h =
       λ e. told .1 (λ l. two .1 (listed .0 e)),
     )
 
--- As the code tests it.
-pub first-or-greater : (i before number : ℕ) → ((eqb i 0 || ltb before number) ≡ true) ↔ ((0 < i) → before < number)
-first-or-greater i before number = (
-  λ e l. ltb-true before number (or-exactly (eqb i 0) (ltb before number) .0 e (ne-eqb i 0 (λ z. omega arith))),
-  λ f. or-exactly (eqb i 0) (ltb before number) .1 (λ e. lt-ltb before number (f (pos-of-ne-zero (eqb-false i 0 e)))),
-)
+-- By whether the record is the first.
+pub order-by-cases : (i before number : ℕ) (t : Bool) → (eqb i 0 ≡ true → t ≡ true) → (eqb i 0 ≡ false → (t ≡ true) ↔ (before < number))
+    → TellsOrder i before number t
+order-by-cases i before number t at-first at-others = order-told i before number t (to, from)
+  where
+    to : t ≡ true → (0 < i) → before < number
+    to e l = at-others (ne-eqb i 0 (λ z. omega arith)) .0 e
+
+    from : ((0 < i) → before < number) → t ≡ true
+    from h = by-cases (eqb i 0) (λ e. at-others e .1 (h (pos-of-ne-zero (eqb-false i 0 e)))) at-first
 
 -- Before the first record there is none, and after a record comes the next.
 pub before-none : {b : List ℕ} {n : ℕ} → NumberedBefore b 0 n

@@ -8,7 +8,9 @@ use Rattle.outcome.specs.declared.Outcome.the-variants.{Accepted}
 use Rattle.outcome.specs.declared.Reason.the-variants.{OutOfRange, UnusedNotZero, WeightOutOfRange}
 use Rattle.outcome.specs.Tests.{Test, plain}
 use Rattle.model.specs.declared.sizes.Sizes.{Sizes}
-use Rattle.model.specs.Contracts.{Numbered, SizesTo}
+use Rattle.model.specs.Records.{key}
+use Rattle.model.specs.Numbers.{Digits, keyBases, keyNumber}
+use Rattle.model.specs.Contracts.{SizesTo}
 use Rattle.wellformed.specs.Verdict.{rangeAt, unusedAt, weightAt, ascends}
 
 -- The tests of record i but that of its order.
@@ -18,6 +20,11 @@ ownTests b i =
     ∷ plain (not (unusedAt b i)) UnusedNotZero i
     ∷ plain (not (weightAt b i)) WeightOutOfRange i
     ∷ []
+
+-- n is the number of record i, each of whose fields is below its base.
+pub record Numbered (b : List ℕ) (i n : ℕ) : Type 0 where
+  pub digits : Digits keyBases (key b i)
+  pub number : n ≡ keyNumber (key b i)
 
 -- n is the number of the record before record i, if there is one.
 abbrev pub NumberedBefore : List ℕ → ℕ → ℕ → Type 0

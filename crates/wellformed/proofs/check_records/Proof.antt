@@ -14,7 +14,7 @@ use Rattle.model.specs.Contracts.{SizesTo}
 use Rattle.model.proofs.Records.{sizes-none}
 use Rattle.wellformed.specs.Verdict.{ascends, recordTests}
 use Rattle.wellformed.specs.Contracts.{ownTests, NumberedBefore}
-use Rattle.wellformed.proofs.Order.{before-none, before-next}
+use Rattle.wellformed.proofs.Order.{numbered, before-none, before-next}
 use Rattle.wellformed.proofs.Verdict.{own-decide, order-fails, record-passes}
 use Rattle.wellformed.proofs.check_records.Statement.{statement}
 use Rattle.wellformed.proofs.check_records.Tie as tie
@@ -34,7 +34,7 @@ own c = sym (c .before .before .check .ensures) ∙ c .enum-told2 .given .1
 -- The test of its order is the definition's.
 order : (c : tie.After-ascends Inv-loop μ-loop)
     → c .ascends .result ≡ ascends (now (c .before .before .before .before .before .before .before .before .before .args .model)) (c .before .before .before .before .before .before .loop .i)
-order c = c .ascends .ensures _ (c .before .before .before .before .before .before .loop .inv .2) (c .before .key-number .ensures)
+order c = c .ascends .ensures _ (c .before .before .before .before .before .before .loop .inv .2) (numbered (own (c .before .before)) (c .before .key-number .ensures))
 
 no-records-requires : tie.Need-no-records-requires Inv-loop μ-loop
 no-records-requires c κs = search needs
@@ -91,7 +91,7 @@ loop-again c = (
   omega arith,
   each-more _ _ (c .before .before .before .before .before .before .before .before .loop .inv .1)
       (record-passes _ _ (own (c .before .before .before .before)) (sym (order (c .before .before)) ∙ not-false _ (c .before .if1 .left))),
-  before-next (c .before .before .before .key-number .ensures),
+  before-next (numbered (own (c .before .before .before .before)) (c .before .before .before .key-number .ensures)),
   c .with-record .ensures,
 )
 

@@ -1,27 +1,27 @@
--- `key_number`: each field is a digit, and the digits are read from the left.
+-- `key_number`: the number is the definition's, of the fields read.
 use native.Mathlib.Omega.{arith}
 use borrow.Author.Needs.{needs}
 use Rattle.model.proofs.Numbers.{number-of-fields}
 use Rattle.model.proofs.record.key_number.Statement.{statement}
 use Rattle.model.proofs.record.key_number.Tie as tie
 
-field-requires : tie.Need-field-requires
-field-requires c κs = search needs
+state-requires : tie.Need-state-requires
+state-requires c κs = search needs
 
-field-requires-2 : tie.Need-field-requires-2
-field-requires-2 c κs = search needs
+symbol-requires : tie.Need-symbol-requires
+symbol-requires c κs = search needs
 
-field-requires-3 : tie.Need-field-requires-3
-field-requires-3 c κs = search needs
+target-requires : tie.Need-target-requires
+target-requires c κs = search needs
 
-field-requires-4 : tie.Need-field-requires-4
-field-requires-4 c κs = search needs
+pushes-requires : tie.Need-pushes-requires
+pushes-requires c κs = search needs
 
-field-requires-5 : tie.Need-field-requires-5
-field-requires-5 c κs = search needs
+top-requires : tie.Need-top-requires
+top-requires c κs = search needs
 
-field-requires-6 : tie.Need-field-requires-6
-field-requires-6 c κs = search needs
+under-requires : tie.Need-under-requires
+under-requires c κs = search needs
 
 mul-result : tie.Need-mul-result
 mul-result c = search needs
@@ -57,22 +57,19 @@ returns : tie.Need-returns
 returns c =
     let four = c .before .before in
     let two = four .before .before in
-    record {
-      digits = (omega arith, (omega arith, (omega arith, (omega arith, (omega arith, (omega arith, tt))))));
-      number = number-of-fields _ _ (two .before .field .ensures .0) (two .field2 .ensures .0) (four .before .field3 .ensures .0)
-          (four .field4 .ensures .0) (c .before .field5 .ensures .0) (c .field6 .ensures .0);
-    }
+    number-of-fields _ _ (two .before .state .ensures .0) (two .symbol .ensures .0) (four .before .target .ensures .0)
+    (four .pushes .ensures .0) (c .before .top .ensures .0) (c .under .ensures .0) (omega arith)
 
 pub key-number-spec : {M : Type 1} → statement M
 key-number-spec =
     tie.close
     (tie.spec
-    field-requires
-    field-requires-2
-    field-requires-3
-    field-requires-4
-    field-requires-5
-    field-requires-6
+    state-requires
+    symbol-requires
+    target-requires
+    pushes-requires
+    top-requires
+    under-requires
     mul-result
     add-result
     mul-result-2
