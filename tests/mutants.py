@@ -242,6 +242,7 @@ MUTANTS = {
     "q and L exchanged in the number": to_base(256, 5, 4, 2, 3, 1, 0),
     "L and Y exchanged in the number": to_base(256, 5, 4, 3, 1, 2, 0),
     "Y and X exchanged in the number": to_base(256, 5, 4, 3, 2, 0, 1),
+    # Fields that pass 11 are below 16: to a base from 16 to 255 every answer is the same, and only the prover sees it.
     "numbers to the base 15": to_base(15, 5, 4, 3, 2, 1, 0),
     "numbers without p": by_number(*(256 ** place for place in (5, 4, 3, 2, 1, 0)), limit=2 ** 40),
     "numbers of 32 bits": by_number(*(256 ** place for place in (5, 4, 3, 2, 1, 0)), limit=2 ** 32),
