@@ -34,10 +34,11 @@ use Rattle.delivery.specs.Contracts.{Within}
 use Rattle.live.specs.Contracts.{ExitsOf, exitMarks}
 use Rattle.model.specs.Contracts.{Sized}
 use Rattle.model.proofs.Accepted.{sized-model}
+use Rattle.ppda.proofs.Vectors.{margin-same}
 use Rattle.inequalities.specs.Inequalities.{deadTests, belowTests, lowerTests}
 use Rattle.inequalities.specs.declared.sides.Side.the-variants.{Upper, StrictUpper, Lower}
 use Rattle.inequalities.specs.Contracts.{deadAt, belowAt, sideAt, meanAt}
-use Rattle.shares.specs.Contracts.{Strict, leastShare}
+use Rattle.shares.specs.Contracts.{leastShare}
 use Rattle.certificate.specs.declared.answer.Margin.the-variants.{Shown, Absent}
 use Rattle.verdict.specs.Verdict.{numberTests, shapedTests, deliveryTests, verdict}
 use Rattle.verdict.specs.Accepted.{UppersRight}
@@ -47,7 +48,7 @@ use Rattle.certificate.specs.Shown.{shapeIn}
 use Rattle.verdict.proofs.Accepted.{delivery-accepted}
 use Rattle.certificate.proofs.Blocks.{itself, dead-same, below-same, lower-same, dead-by-entry, below-by-number, uppers-by-side, lowers-by-side, means-by-row, part-same}
 use Rattle.certificate.proofs.Rest.{uppers-within, uppers-read, rest-read, rest-same, numbers-by-rest}
-use Rattle.certificate.proofs.Shares.{least-share, strict-of}
+use Rattle.certificate.proofs.Shares.{least-share}
 
 -- ---- an accepted model and its sizes
 
@@ -253,13 +254,14 @@ module _ (b d : List ℕ) where
     unfolding shownMargin
     shown-with-lowers shape has found = rw (accepted, shape-by shape, has, found)
 
--- a lists the live marks of the model b by rows.
-module _ {b : List ℕ} {s g : ℕ} (sized : Sized b s g) (d : List ℕ) {a : List ℕ} {n : ℕ} (e : n ≡ entriesIn s g)
-    (marks : ExitsOf s g (alive (rulesOf b) s g) a) where
-  pub accepted-strict : {h : Shape} → verdict b d ≡ Accepted → shapeOf s g d ≡ Of h → hasLowers h ≡ true → Strict b s g a (take (recordBytes * n) d)
-  accepted-strict = strict-of d a (take (recordBytes * n) d) sized (marks .marks) (part-same s g d e)
-
-  pub margin-found : {m : ℕ} → m ≡ leastShare b s g a (take (recordBytes * n) d) → m ≡ marginOf b d
+module _ {b : List ℕ} {s g : ℕ} (sized : Sized b s g) where
+  -- The margin of a block of uppers, where a lists the live marks of the model b by rows.
+  pub margin-found : (u : List ℕ) {a : List ℕ} → ExitsOf s g (alive (rulesOf b) s g) a → {m : ℕ} → m ≡ leastShare b s g a u → m ≡ marginOf b u
   unfolding marginOf
-  margin-found found =
-      found ∙ rw (← sized .states, ← sized .symbols) (least-share d a (take (recordBytes * n) d) sized (marks .marks) (part-same s g d e))
+  margin-found u {a} marks found = found ∙ rw (← sized .states, ← sized .symbols) (least-share b s g a u (marks .marks))
+
+  -- That of the first V records of a delivery is the delivery's.
+  pub margin-of-part : (d : List ℕ) {n m : ℕ} → n ≡ entriesIn s g → m ≡ marginOf b (take (recordBytes * n) d) → m ≡ marginOf b d
+  unfolding marginOf
+  margin-of-part d e found =
+      found ∙ rw (← sized .states, ← sized .symbols) (margin-same (sized-model sized) _ _ (part-same s g d e))

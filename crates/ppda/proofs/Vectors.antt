@@ -1,11 +1,13 @@
--- f and the mean steps' right side read no number but those of the model's entries and rows.
+-- f, the mean steps' right side and the margin read no number but those of the model's entries and rows.
 use Prim.Native.Nat.{ℕ, _+_, _*_, _<_}
 use mathlib.Core.List.{List}
 use mathlib.Core.Path.{_≡_, refl, ap, ap₂}
-use Rattle.ppda.specs.Units.{weightUnit}
+use Rattle.ppda.specs.Units.{weightUnit, chanceUnit}
 use Rattle.ppda.specs.Rules.{Rule, Push, nothing, one, two, pushed, Below, IsModel}
 use Rattle.ppda.specs.Equations.{Vector, RowVector, Same, SameRows, through, f, stepsThrough, meanSide}
-use Rattle.walks.proofs.Sums.{sumTo-cong}
+use Rattle.ppda.specs.Live.{isLive, alive}
+use Rattle.ppda.specs.Margin.{shareAt, margin}
+use Rattle.walks.proofs.Sums.{sumTo-cong, leastTo-cong}
 use Rattle.ppda.proofs.Rows.{row-cong}
 
 module _ (s g d : ℕ) (v u : Vector) (same : Same s g v u) where
@@ -35,3 +37,9 @@ module _ {m : List Rule} {s g : ℕ} (model : IsModel s g m) where
   mean-side-same d h v u e k same rows p z =
       ap (λ n. weightUnit * (d * h) + n)
       (row-cong m p z _ _ (λ r i. let t = model .rule r i in steps-same s g d v u same e k rows (r .target) (r .push) (t .target) (t .push)))
+
+  pub margin-same : (v u : Vector) → Same s g v u → margin m s g v ≡ margin m s g u
+  unfolding margin
+  margin-same v u same =
+      leastTo-cong chanceUnit _ _ s (λ p hp. leastTo-cong chanceUnit _ _ g (λ z hz. leastTo-cong chanceUnit _ _ s (λ q hq.
+      ap₂ (shareAt (isLive (alive m s g p z q))) (same p z q hp hz hq) (f-same chanceUnit v u same p z q hq))))

@@ -1,6 +1,6 @@
 -- The margin as the code finds it: one share, and the least value that a loop carries from row to row.
 use Prim.Native.Nat.{ℕ, zero, suc, _+_, _-_, _*_, _/_, _%_, _≤_, _<_, min}
-use native.Mathlib.Nat.{le-antisymm, le-trans, mul-div-mul-right, div-add-mod'}
+use native.Mathlib.Nat.{le-antisymm, le-trans, mul-div-mul-right, div-add-mod', zero-mul, zero-div}
 use native.Mathlib.Numerals.{add-one}
 use native.Mathlib.Omega.{arith}
 use mathlib.Core.Bool.{Bool, true, false}
@@ -24,7 +24,7 @@ use Rattle.delivery.specs.Numbers.{uppersOf}
 use Rattle.live.specs.Contracts.{bitOf}
 use Rattle.equations.specs.Contracts.{fOf}
 use Rattle.shares.specs.Gap.{gapAt}
-use Rattle.shares.specs.Contracts.{StrictAt, Strict, shareOf, leastShare, Standing}
+use Rattle.shares.specs.Contracts.{shareOf, leastShare, Standing}
 
 -- ---- one share
 
@@ -35,6 +35,13 @@ share-divided u y =
     sym (mul-div-mul-right {m = chanceUnit} (u * sumUnit - y) (u * 65536) (lit< tt))
     ∙ ap (λ d. (u * sumUnit - y) * chanceUnit / d) (omega arith)
 
+-- An upper that is not above f leaves nothing to divide.
+pub share-none : (u y : ℕ) → u * sumUnit ≤ y → 0 ≡ share u y
+unfolding share
+share-none u y le =
+    let e : u * sumUnit - y ≡ 0 = omega arith in
+    rw (e, zero-mul) (sym (zero-div (u * sumUnit)))
+
 pub share-dead : (t : Bool) (u y : ℕ) → t ≡ false → chanceUnit ≡ shareAt t u y
 unfolding shareAt
 share-dead t u y e = rw e
@@ -43,15 +50,9 @@ pub share-live : (t : Bool) (u y : ℕ) → t ≡ true → share u y ≡ shareAt
 unfolding shareAt
 share-live t u y e = rw e
 
--- The mark and the numbers read at exit q of row number k, which is (k / g, k % g): the condition there, and the part in the margin.
+-- The mark and the numbers read at exit q of row number k, which is (k / g, k % g): the part in the margin.
 module _ (b : List ℕ) (s g : ℕ) (a u : List ℕ) (k q : ℕ) {x n e y : ℕ} {t : Bool} (et : t ≡ isLive x) (ex : x ≡ bitOf (getD a k 0) q)
     (en : n ≡ valueAt u e) (ee : e ≡ entryIn s k q) (ey : y ≡ f (rulesOf b) s chanceUnit (uppersOf s g u) (k / g) (k % g) q) where
-  pub strict-found : Strict b s g a u → 0 < g → k < rowsIn s g → q < s → StrictAt t n y
-  unfolding uppersOf
-  strict-found strict some hk hq =
-      let row = row-of s g k some hk in
-      rw (et, ex, en, ee, ey) (rw (div-add-mod' k g) at (strict (k / g) (k % g) q (row .0) (row .1) hq))
-
   pub share-found : {r : ℕ} → r ≡ shareAt t n y → r ≡ shareOf b s g a u (k / g) (k % g) q
   unfolding uppersOf
   share-found h = rw (h, et, ex, en, ee, ey, div-add-mod' k g)

@@ -10,26 +10,32 @@ use model::format::MOST_ROWS;
 use model::sizes::Sizes;
 use rows::STARTS;
 ghost use mathlib.Core.Path.{_≡_};
-ghost use Prim.Native.Nat.{_*_, _≤_, _<_};
-ghost use Rattle.ppda.specs.Units.{mostChance, sumUnit};
+ghost use Prim.Native.Nat.{_≤_, _<_};
+ghost use Rattle.ppda.specs.Units.{mostChance};
 ghost use Rattle.walks.specs.Order.{rowsIn};
 ghost use Rattle.ppda.specs.Margin.{share, shareAt};
-ghost use Rattle.shares.specs.Contracts.{StrictAt, StrictBlock, leastInRow, leastShare};
+ghost use Rattle.delivery.specs.Contracts.{Chances};
+ghost use Rattle.rows.specs.Contracts.{Indexed};
+ghost use Rattle.shares.specs.Contracts.{leastInRow, leastShare};
 
 // A difference in units of a sum, divided by u times this, is a share in 1/2^20.
 const SHARE_UNIT: u64 = SUM_UNIT / CHANCE_UNIT;
 
-// The share (u − y) / u of an upper u and f(u) = y, in 1/2^20, rounded down.
+// The share (u − y) / u of an upper u and f(u) = y, in 1/2^20, rounded down. An upper that is not above f has none.
 fn share(u: u64, y: u64) -> u64
-    requires { ⌜ (0 < u) × (u ≤ mostChance) × (y ≤ u * sumUnit) ⌝ }
+    requires { ⌜ u ≤ mostChance ⌝ }
     ensures { λ r. ⌜ r ≡ share u y ⌝ }
 {
-    (u * SUM_UNIT - y) / (u * SHARE_UNIT)
+    let upper = u * SUM_UNIT;
+    if upper <= y {
+        return 0;
+    }
+    (upper - y) / (u * SHARE_UNIT)
 }
 
 // An entry's part in the margin, by whether it is live. A dead one leaves the margin as it is.
 fn share_at(live: bool, u: u64, y: u64) -> u64
-    requires { ⌜ (u ≤ mostChance) × StrictAt live u y ⌝ }
+    requires { ⌜ u ≤ mostChance ⌝ }
     ensures { λ r. ⌜ r ≡ shareAt live u y ⌝ }
 {
     if live { share(u, y) } else { CHANCE_UNIT }
@@ -45,7 +51,7 @@ fn least_of_row(
     row: usize,
     least: u64,
 ) -> u64
-    requires { ⌜ StrictBlock (now model) n (now starts) (now live) (now uppers) × (row < rowsIn (n .states) (n .symbols)) ⌝ }
+    requires { ⌜ Indexed (now model) n (now starts) × Chances n (now uppers) × (row < rowsIn (n .states) (n .symbols)) ⌝ }
     ensures { λ r. ⌜ r ≡ leastInRow least (now (model .entry)) n (now (live .entry)) (now (uppers .entry)) row ⌝ }
 {
     let s = n.states;
@@ -69,7 +75,7 @@ pub fn margin_of(
     uppers: &[u8],
     n: Sizes,
 ) -> u64
-    requires { ⌜ StrictBlock (now model) n (now starts) (now live) (now uppers) ⌝ }
+    requires { ⌜ Indexed (now model) n (now starts) × Chances n (now uppers) ⌝ }
     ensures { λ r. ⌜ r ≡ leastShare (now (model .entry)) (n .states) (n .symbols) (now (live .entry)) (now (uppers .entry)) ⌝ }
 {
     let rows = n.rows();

@@ -248,6 +248,11 @@ leastTo-le-term top h (suc n) i b = go (eq-or-lt-of-le (le-of-suc-le-suc b)) (λ
     go (inl e) rest = rw e (omega arith)
     go (inr c) rest = let t : leastTo top h n ≤ h i = rest c in omega arith
 
+pub leastTo-cong : (top : ℕ) (h k : ℕ → ℕ) (n : ℕ) → ((i : ℕ) → i < n → h i ≡ k i) → leastTo top h n ≡ leastTo top k n
+unfolding leastTo
+leastTo-cong top h k zero e = refl
+leastTo-cong top h k (suc n) e = ap₂ min (leastTo-cong top h k n (λ i l. e i (omega arith))) (e n (omega arith))
+
 pub leastTo-greatest : (top : ℕ) (h : ℕ → ℕ) (n a : ℕ) → a ≤ top → ((i : ℕ) → i < n → a ≤ h i) → a ≤ leastTo top h n
 unfolding leastTo
 leastTo-greatest top h zero a t e = t

@@ -9,7 +9,7 @@ use Rattle.walks.specs.Sums.{leastTo}
 use Rattle.model.proofs.Records.{fits-narrow}
 use Rattle.model.proofs.Accepted.{sized-fits}
 use Rattle.shares.specs.Contracts.{shareOf}
-use Rattle.shares.proofs.Shares.{strict-found, share-found, least-none, least-more}
+use Rattle.shares.proofs.Shares.{share-found, least-none, least-more}
 use Rattle.shares.proofs.margin.least_of_row.Statement.{statement}
 use Rattle.shares.proofs.margin.least_of_row.Tie as tie
 
@@ -40,33 +40,27 @@ loop-holds : tie.Need-loop-holds Inv-loop μ-loop
 loop-holds c = (search needs, least-none _ _)
 
 entry-in-requires : tie.Need-entry-in-requires Inv-loop μ-loop
-entry-in-requires c κs = let pre = c .before .before .before .before .pre in (fits-narrow (sized-fits (pre .0 .indexed .sized)), pre .1, c .loop-test .taken)
+entry-in-requires c κs = let pre = c .before .before .before .before .pre in (fits-narrow (sized-fits (pre .0 .sized)), pre .2, c .loop-test .taken)
 
 f-requires : tie.Need-f-requires Inv-loop μ-loop
-f-requires c κs = let pre = c .before .before .before .before .before .pre in ((pre .0 .indexed, pre .0 .chances), (pre .1, c .before .loop-test .taken))
+f-requires c κs = let pre = c .before .before .before .before .before .pre in ((pre .0, pre .1), (pre .2, c .before .loop-test .taken))
 
 mark-requires : tie.Need-mark-requires Inv-loop μ-loop
 mark-requires c κs =
     let pre = c .before .before .before .before .before .before .pre in
-    let fits = sized-fits (pre .0 .indexed .sized) in
-    (omega (arith, pre .1), omega arith)
+    let fits = sized-fits (pre .0 .sized) in
+    (omega (arith, pre .2), omega arith)
 
 is-live-requires : tie.Need-is-live-requires Inv-loop μ-loop
 is-live-requires c κs = search needs
 
 value-at-requires : tie.Need-value-at-requires Inv-loop μ-loop
-value-at-requires c κs = omega (arith, c .before .before .before .entry-in .ensures .1, c .before .before .before .before .before .before .before .before .pre .0 .chances .whole)
+value-at-requires c κs = omega (arith, c .before .before .before .entry-in .ensures .1, c .before .before .before .before .before .before .before .before .pre .1 .whole)
 
 share-at-requires : tie.Need-share-at-requires Inv-loop μ-loop
 share-at-requires c κs =
-    let start = c .before .before .before .before .before .before .before .before .before in
-    let args = start .args in
-    let pre = start .pre in (
-      rw (c .value-at .ensures .0) (pre .0 .chances .most _),
-      strict-found (now (args .model)) (args .n .states) (args .n .symbols) (now (args .live)) (now (args .uppers)) (args .row) _
-          (c .before .is-live .ensures) (c .before .before .mark .ensures .0) (c .value-at .ensures .0) (c .before .before .before .before .entry-in .ensures .0)
-          (c .before .before .before .f .ensures .0) (pre .0 .strict) (sized-fits (pre .0 .indexed .sized) .some-symbols) (pre .1) (c .before .before .before .before .before .loop-test .taken),
-    )
+    let pre = c .before .before .before .before .before .before .before .before .before .pre in
+    rw (c .value-at .ensures .0) (pre .1 .most _)
 
 add-q : tie.Need-add-q Inv-loop μ-loop
 add-q c = search needs

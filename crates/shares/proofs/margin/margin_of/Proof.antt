@@ -19,13 +19,13 @@ abbrev μ-loop : tie.MeasureT-loop
 μ-loop model starts live uppers n rows least₀ k₀ least k = rows - k
 
 rows-requires : tie.Need-rows-requires Inv-loop μ-loop
-rows-requires c κs = sized-fits (c .before .before .pre .indexed .sized)
+rows-requires c κs = sized-fits (c .before .before .pre .0 .sized)
 
 loop-holds : tie.Need-loop-holds Inv-loop μ-loop
 loop-holds c = (search needs, c .rows .ensures .0, c .rows .ensures .1, rw (← rows-none) refl)
 
 least-of-row-requires : tie.Need-least-of-row-requires Inv-loop μ-loop
-least-of-row-requires c κs = (c .before .before .before .before .before .pre, omega arith)
+least-of-row-requires c κs = let pre = c .before .before .before .before .before .pre in (pre .0, pre .1, omega arith)
 
 add-k : tie.Need-add-k Inv-loop μ-loop
 add-k c = search needs
@@ -37,7 +37,7 @@ loop-again : tie.Need-loop-again Inv-loop μ-loop
 loop-again c = (omega arith, search needs, search needs, rows-more _ _ _ _ _ _ (c .before .before .loop .inv .3) (c .least-of-row .ensures))
 
 returns : tie.Need-returns Inv-loop μ-loop
-returns c = rows-all _ _ _ _ _ _ (sized-fits (c .before .before .before .before .before .pre .indexed .sized) .some-symbols) (omega arith) (c .before .loop .inv .3)
+returns c = rows-all _ _ _ _ _ _ (sized-fits (c .before .before .before .before .before .pre .0 .sized) .some-symbols) (omega arith) (c .before .loop .inv .3)
 
 pub margin-of-spec : {M : Type 1} → statement M
 margin-of-spec =

@@ -1,12 +1,11 @@
--- `share_at`: a live entry's upper is above f, so that it has a share, and a dead one's part is 2^20.
-use native.Mathlib.Omega.{arith}
+-- `share_at`: a live entry's part is its share, and a dead one's is 2^20.
 use mathlib.Core.Path.{_∙_}
 use Rattle.shares.proofs.Shares.{share-dead, share-live}
 use Rattle.shares.proofs.margin.share_at.Statement.{statement}
 use Rattle.shares.proofs.margin.share_at.Tie as tie
 
 share-requires : tie.Need-share-requires
-share-requires c κs = omega (arith, c .before .pre .1 (c .if1 .taken))
+share-requires c κs = c .before .pre
 
 returns : tie.Need-returns
 returns c = c .share .ensures ∙ share-live _ _ _ (c .before .if1 .taken)
