@@ -12,6 +12,8 @@ pub mod Marks
 pub mod Live
 pub mod Margin
 pub mod Lower
+pub mod Agree
+pub mod Merging
 pub mod Rounds
 pub mod Mass
 pub mod Mean

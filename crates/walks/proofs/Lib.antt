@@ -4,3 +4,4 @@ pub mod Lists
 pub mod Places
 pub mod Orders
 pub mod Exactly
+pub mod Numbers
