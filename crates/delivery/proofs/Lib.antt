@@ -5,4 +5,5 @@ pub mod Shapes
 pub mod Values
 pub mod Due
 pub mod Made
+pub mod Merged
 pub mod Told

@@ -5,5 +5,6 @@ pub mod Records
 pub mod Shapes
 pub mod Numbers
 pub mod Made
+pub mod Merged
 pub mod Edges
 pub mod Contracts

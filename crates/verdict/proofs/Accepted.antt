@@ -145,10 +145,10 @@ module _ {m : List Rule} {s g : ℕ} (model : IsModel s g m) {p z q : ℕ} (hp :
 -- ---- the blocks of a delivery
 
 -- Every block of a shape is right.
-record BlocksRight (b : List ℕ) (s g : ℕ) (h : Shape) (d : List ℕ) : Type 0 where
-  uppers : UppersRight b s g d
-  lowers : hasLowers h ≡ true → LowersRight b s g d
-  means : hasMeans h ≡ true → MeansRight b s g h d
+pub record BlocksRight (b : List ℕ) (s g : ℕ) (h : Shape) (d : List ℕ) : Type 0 where
+  pub uppers : UppersRight b s g d
+  pub lowers : hasLowers h ≡ true → LowersRight b s g d
+  pub means : hasMeans h ≡ true → MeansRight b s g h d
 
 module _ (b : List ℕ) (s g : ℕ) (model : IsModel s g (rulesOf b)) (h : Shape) (d : List ℕ) where
   blocks-of-passed : Passed (layoutTests s g h d ++ numberTests b s g h d) → BlocksRight b s g h d

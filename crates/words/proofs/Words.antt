@@ -5,7 +5,8 @@ use native.Mathlib.Omega.{arith}
 use mathlib.Core.List.{List, [], _∷_, _++_, append-assoc}
 use mathlib.Core.Path.{_≡_, refl, sym, ap, ap₂, _∙_}
 use lib.ListN.{length, getD, take, drop, set, length-append, length-drop}
-use lib.Seq.{length-take-le, drop-cons, getD-append-add, drop-append-add, take-add, take-at, drop-drop, sets, sets-eq}
+use lib.Seq.{length-take-le, drop-cons, getD-append-add, getD-set-other, drop-append-add, take-add, take-at, drop-drop, sets, sets-eq}
+use mathlib.Core.Logic.{_⊎_, inl, inr}
 use Rattle.words.specs.Words.{wordAt, fourBytes, Bytes}
 use Rattle.words.specs.Contracts.{written}
 
@@ -150,3 +151,24 @@ put-four l at a b c d h =
 pub word-written : (l : List ℕ) (at n : ℕ) → n < 2 ^ 32 → at ≤ length l → wordAt (written l at (fourBytes n)) at ≡ n
 word-written l at n h room =
     ap (wordAt (written l at (fourBytes n))) (sym (length-take-le at l room)) ∙ word-made (take at l) (drop (at + 4) l) n h
+
+-- Reading apart from what was written.
+pub word-apart : (l : List ℕ) (at n from : ℕ) → at + 3 < length l → (from + 3 < at) ⊎ (at + 3 < from)
+    → wordAt (written l at (fourBytes n)) from ≡ wordAt l from
+unfolding wordAt
+word-apart l at n from room apart = rw (first, byte 1 (omega arith), byte 2 (omega arith), byte 3 (omega arith))
+  where
+    off : (k : ℕ) → k < 4 → (j : ℕ) → j < 4 → (from + 3 < at) ⊎ (at + 3 < from) → from + k ≡ at + j → ⊥
+    off k hk j hj (inl before) e = omega arith
+    off k hk j hj (inr after) e = omega arith
+
+    byte : (k : ℕ) → k < 4 → getD (written l at (fourBytes n)) (from + k) 0 ≡ getD l (from + k) 0
+    byte k hk =
+        ap (λ x. getD x (from + k) 0) (sym (put-four l at (n % 256) (n / 256 % 256) (n / 65536 % 256) (n / 16777216 % 256) room))
+        ∙ getD-set-other (set (set (set l at (n % 256)) (at + 1) (n / 256 % 256)) (at + 2) (n / 65536 % 256)) (at + 3) (from + k) (n / 16777216 % 256) 0 (off k hk 3 (omega arith) apart)
+        ∙ getD-set-other (set (set l at (n % 256)) (at + 1) (n / 256 % 256)) (at + 2) (from + k) (n / 65536 % 256) 0 (off k hk 2 (omega arith) apart)
+        ∙ getD-set-other (set l at (n % 256)) (at + 1) (from + k) (n / 256 % 256) 0 (off k hk 1 (omega arith) apart)
+        ∙ getD-set-other l at (from + k) (n % 256) 0 (λ e. off k hk 0 (omega arith) apart (e ∙ sym (add-zero at)))
+
+    first : getD (written l at (fourBytes n)) from 0 ≡ getD l from 0
+    first = ap (λ i. getD (written l at (fourBytes n)) i 0) (sym (add-zero from)) ∙ byte 0 (omega arith) ∙ ap (λ i. getD l i 0) (add-zero from)
