@@ -9,7 +9,7 @@ use lib.Dec.{eqb, ltb}
 use lib.IntN.{ℤ}
 use lib.ListN.{length, getD, take, set, replicate, length-take, length-set, length-replicate, List·getD-eq-default}
 use lib.Seq.{take-all, ext-getD, getD-take, getD-set-same, getD-set-other, length-take-le}
-use borrow.Author.Tests.{ltb-true, ltb-false, lt-ltb, eqb-true, eqb-false}
+use borrow.Author.Tests.{ltb-true, ltb-false, lt-ltb, le-ltb, eqb-true, eqb-false}
 use Rattle.outcome.specs.declared.Reason.{Reason}
 use Rattle.outcome.specs.declared.Outcome.the-variants.{Refused}
 use Rattle.walks.specs.Order.{entriesIn, rowAt, entryAt}
@@ -34,9 +34,16 @@ use Rattle.held.specs.Contracts.{Values, Marks}
 
 -- ---- numbers in the first places
 
-pub padded-at : (h : ℕ → ℕ) (n e : ℕ) → e < n → n ≤ mostEntries → getD (padded h n) e 0 ≡ h e
+pub length-padded : (h : ℕ → ℕ) (n : ℕ) → length (padded h n) ≡ mostEntries
 unfolding padded
-padded-at h n e lt most = getD-listTo _ mostEntries e (omega arith) ∙ rw (lt-ltb e n lt)
+length-padded h n = length-listTo _ mostEntries
+
+padded-there : (h : ℕ → ℕ) (n e : ℕ) → e < mostEntries → getD (padded h n) e 0 ≡ cond (ltb e n) (h e) 0
+unfolding padded
+padded-there h n e lt = getD-listTo _ mostEntries e lt
+
+pub padded-at : (h : ℕ → ℕ) (n e : ℕ) → e < n → n ≤ mostEntries → getD (padded h n) e 0 ≡ h e
+padded-at h n e lt most = padded-there h n e (omega arith) ∙ rw (lt-ltb e n lt)
 
 pub padded-is : {h : ℕ → ℕ} {n : ℕ} {l : List ℕ} → length l ≡ mostEntries → ((e : ℕ) → e < n → getD l e 0 ≡ h e)
     → ((e : ℕ) → n ≤ e → getD l e 0 ≡ 0) → l ≡ padded h n
@@ -46,6 +53,18 @@ padded-is {h} {n} {l} size value none = listTo-ext mostEntries size (λ e lt. go
     go : (e : ℕ) (t : Bool) → ltb e n ≡ t → getD l e 0 ≡ cond (ltb e n) (h e) 0
     go e true q = rw q (value e (ltb-true e n q))
     go e false q = rw q (none e (ltb-false e n q))
+
+pub padded-past : (h : ℕ → ℕ) (n e : ℕ) → n ≤ e → getD (padded h n) e 0 ≡ 0
+padded-past h n e le = go (ltb e mostEntries) refl
+  where
+    go : (t : Bool) → ltb e mostEntries ≡ t → getD (padded h n) e 0 ≡ 0
+    go true q = padded-there h n e (ltb-true e mostEntries q) ∙ rw (le-ltb e n le)
+    go false q = List·getD-eq-default (padded h n) 0 (rw (length-padded h n) (ltb-false e mostEntries q))
+
+-- The same numbers make the same list.
+pub padded-cong : (h k : ℕ → ℕ) (n : ℕ) → n ≤ mostEntries → ((e : ℕ) → e < n → h e ≡ k e) → padded h n ≡ padded k n
+padded-cong h k n most same =
+    padded-is (length-padded h n) (λ e lt. padded-at h n e lt most ∙ same e lt) (padded-past h n)
 
 -- ---- a vector and rows in file order
 
@@ -72,6 +91,23 @@ module _ (s g : ℕ) (v : Vector) where
       ap (λ k. getD l k 0) (sym place) ∙ same (e / s / g) (e / s % g) (e % s) first second last)
       none
 
+  -- Vectors with the same numbers at the entries are held as the same list.
+  pub listed-cong : (u : Vector) → s * g * s ≤ mostEntries → Same s g v u → listed s g v ≡ listed s g u
+  listed-cong u most same =
+      padded-cong _ _ (s * g * s) most
+      (λ e lt. let (first, second, last, place) = entry-of s g e lt in same (e / s / g) (e / s % g) (e % s) first second last)
+
+  -- What no number of the vector is above, no number of the list is.
+  pub listed-most : (a e : ℕ) → s * g * s ≤ mostEntries → ((p z q : ℕ) → p < s → z < g → q < s → v p z q ≤ a) → getD (listed s g v) e 0 ≤ a
+  listed-most a e most range = go (ltb e (s * g * s)) refl
+    where
+      go : (t : Bool) → ltb e (s * g * s) ≡ t → getD (listed s g v) e 0 ≤ a
+      go true q =
+          let lt : e < s * g * s = ltb-true e (s * g * s) q in
+          let (first, second, last, place) = entry-of s g e lt in
+          rw (padded-at _ (s * g * s) e lt most) (range (e / s / g) (e / s % g) (e % s) first second last)
+      go false q = rw (padded-past _ (s * g * s) e (ltb-false e (s * g * s) q)) (omega arith)
+
   pub live-listed : {l : List ℕ} → Marks s g v l → l ≡ listed s g v
   live-listed marks = listed-is (marks .size) (marks .marks) (marks .none)
 
@@ -90,6 +126,11 @@ module _ (s g : ℕ) (r : RowVector) where
       let (first, second, place) = row-of s g k (some-of-product s g k lt) lt in
       ap (λ j. getD l j 0) (sym place) ∙ same (k / g) (k % g) first second)
       none
+
+  pub rows-cong : (t : RowVector) → s * g ≤ mostEntries → SameRows s g r t → listedRows s g r ≡ listedRows s g t
+  rows-cong t most same =
+      padded-cong _ _ (s * g) most
+      (λ k lt. let (first, second, place) = row-of s g k (some-of-product s g k lt) lt in same (k / g) (k % g) first second)
 
   pub rows-at : (p z : ℕ) → p < s → z < g → s * g ≤ mostEntries → rows g (listedRows s g r) p z ≡ r p z
   rows-at p z hp hz most =

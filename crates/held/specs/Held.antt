@@ -74,11 +74,17 @@ numbersHeld b h d =
 unfoldable pub holdsModel : ℕ → Bool
 holdsModel n = ltb 0 n && leb n mostBytes
 
--- Whether a delivery is held, one of shape k, one with lowers, one with mean steps.
+-- Whether a delivery is held.
 abbrev pub isHeld : HeldDelivery → Bool
 isHeld Nothing = false
 isHeld (Of h) = true
 
+-- Its shape, where one is held.
+abbrev pub shapeHeld : HeldDelivery → Shape
+shapeHeld Nothing = U
+shapeHeld (Of h) = h
+
+-- Whether one of shape k is held, one with lowers, one with mean steps.
 abbrev pub isHeldAs : HeldDelivery → Shape → Bool
 isHeldAs Nothing k = false
 isHeldAs (Of h) k = sameShape h k

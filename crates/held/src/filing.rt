@@ -75,7 +75,7 @@ pub fn shape_for(delivery: &[u8], n: Sizes) -> Shape
 }
 
 // The lowers of a delivery of this shape, or zeros.
-fn lowers_of(delivery: &[u8], n: Sizes, shape: Shape) -> [u32; MOST_ENTRIES]
+pub fn lowers_of(delivery: &[u8], n: Sizes, shape: Shape) -> [u32; MOST_ENTRIES]
     requires { ⌜ ShapedFile n shape (now delivery) ⌝ }
     ensures { λ r. ⌜ r ≡ ifStanding (hasLowers shape) (listed (n .states) (n .symbols) (lowersOf (n .states) (n .symbols) (now (delivery .entry)))) ⌝ }
 {
@@ -88,7 +88,7 @@ fn lowers_of(delivery: &[u8], n: Sizes, shape: Shape) -> [u32; MOST_ENTRIES]
 }
 
 // The mean steps of a delivery of this shape, or zeros.
-fn means_of(delivery: &[u8], n: Sizes, shape: Shape) -> [u32; MOST_ENTRIES]
+pub fn means_of(delivery: &[u8], n: Sizes, shape: Shape) -> [u32; MOST_ENTRIES]
     requires { ⌜ ShapedFile n shape (now delivery) ⌝ }
     ensures { λ r. ⌜ r ≡ ifStanding (hasMeans shape) (listedRows (n .states) (n .symbols) (meansOf (n .states) (n .symbols) shape (now (delivery .entry)))) ⌝ }
 {

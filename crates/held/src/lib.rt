@@ -10,7 +10,7 @@ pub mod lists; // lists.rt: lists of numbers in the order of files
 pub mod places; // places.rt: a held number by its entry or its row
 
 ghost use mathlib.Core.Path.{_≡_};
-ghost use Rattle.held.specs.Held.{isHeld, isHeldAs, lowersStand, meansStand, holdsModel, noModel, noNumbers};
+ghost use Rattle.held.specs.Held.{isHeld, shapeHeld, isHeldAs, lowersStand, meansStand, holdsModel, noModel, noNumbers};
 
 // A held model: its file's bytes in the first `length` places, and what is worked out from them once. No model is held where the length is 0
 // (or above MOST_BYTES, which no call makes).
@@ -50,6 +50,16 @@ pub fn is_held(delivery: HeldDelivery) -> bool
     match delivery {
         HeldDelivery::Nothing => false,
         HeldDelivery::Of(_) => true,
+    }
+}
+
+// The shape of the held delivery, where one is held.
+pub fn shape_held(delivery: HeldDelivery) -> Shape
+    ensures { λ r. ⌜ r ≡ shapeHeld delivery ⌝ }
+{
+    match delivery {
+        HeldDelivery::Nothing => Shape::U,
+        HeldDelivery::Of(shape) => shape,
     }
 }
 
