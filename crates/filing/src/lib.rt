@@ -7,15 +7,17 @@ use held::HeldDelivery;
 use held::HeldModel;
 use held::Numbers;
 use held::holds_model;
+use held::is_held;
 use held::is_held_as;
 use held::lists::same;
 use model::sizes::Sizes;
 use outcome::Outcome;
 use outcome::Reason;
+use outcome::is_refused;
 use outcome::refused;
 ghost use mathlib.Core.Path.{_≡_};
 ghost use Rattle.model.specs.Contracts.{Fits};
-ghost use Rattle.filing.specs.Outcomes.{modelOutcome, deliveryOutcome};
+ghost use Rattle.filing.specs.Outcomes.{modelOutcome, deliveryOutcome, mergeReason, mergeOutcome};
 ghost use Rattle.filing.specs.Known.{sameNumbers, markBy};
 
 // The outcome of filing a model where one of this length is held, or none.
@@ -38,6 +40,31 @@ pub fn delivery_outcome(held: HeldModel, file: &[u8]) -> Outcome
     }
     let bytes = held.bytes;
     certificate::check(&bytes[..length], file)
+}
+
+// The register's own reason to refuse a merge, by whether a model and a delivery are held: none where both are.
+fn merge_reason(model: bool, delivery: bool) -> Outcome
+    ensures { λ r. ⌜ r ≡ mergeReason model delivery ⌝ }
+{
+    if !model {
+        return refused(Reason::NoModel, 0);
+    }
+    if !delivery {
+        return refused(Reason::NoDelivery, 0);
+    }
+    Outcome::Accepted
+}
+
+// The outcome of merging the held delivery with a second one.
+pub fn merge_outcome(held: HeldModel, delivery: HeldDelivery, file: &[u8]) -> Outcome
+    ensures { λ r. ⌜ r ≡ mergeOutcome held delivery (now (file .entry)) ⌝ }
+{
+    let length = held.length;
+    let own = merge_reason(holds_model(length), is_held(delivery));
+    if is_refused(own) {
+        return own;
+    }
+    delivery_outcome(held, file)
 }
 
 // Whether two deliveries have the same numbers: uppers and lowers of the entries, mean steps of the rows.

@@ -1,4 +1,4 @@
-// The filings on a lent register: each calls the filing by value and stores the register that it gives only if the filing was accepted. A refused
+// The filings and the merge on a lent register: each calls the one by value and stores the register that it gives only if it was accepted. A refused
 // one writes to no lent memory (proofs/Untouched.antt).
 
 use calls::Mark;
@@ -8,8 +8,9 @@ ghost use mathlib.Core.Bool.{not};
 ghost use mathlib.Core.Path.{_≡_};
 ghost use Rattle.outcome.specs.Tests.{isRefused};
 ghost use Rattle.register.specs.Filing.{fileModel, fileDelivery};
+ghost use Rattle.register.specs.Merging.{mergeDelivery};
 
-// What filing a delivery answers: the outcome, and the mark of an accepted delivery.
+// What filing a delivery, or merging it, answers: the outcome, and the mark of an accepted delivery.
 pub struct Receipt {
     pub outcome: Outcome,
     pub mark: Mark,
@@ -49,6 +50,25 @@ pub fn file_delivery(held: &mut Register, file: &[u8]) -> Receipt
         ⌝ }
 {
     let received = (*held).file_delivery(file);
+    let outcome = received.outcome;
+    if is_stored(outcome) {
+        *held = received.register;
+    }
+    Receipt {
+        outcome,
+        mark: received.mark,
+    }
+}
+
+// Merges the held delivery of the lent register with a second one.
+pub fn merge_delivery(held: &mut Register, file: &[u8]) -> Receipt
+    ensures { λ r. ⌜
+        (now (held .exit) ≡ mergeDelivery (now (held .entry)) (now (file .entry)) .register)
+        × (r .outcome ≡ mergeDelivery (now (held .entry)) (now (file .entry)) .outcome)
+        × (r .mark ≡ mergeDelivery (now (held .entry)) (now (file .entry)) .mark)
+        ⌝ }
+{
+    let received = (*held).merge_delivery(file);
     let outcome = received.outcome;
     if is_stored(outcome) {
         *held = received.register;

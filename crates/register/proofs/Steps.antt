@@ -15,13 +15,16 @@ use Rattle.delivery.specs.Shapes.{shapeOf}
 use Rattle.held.specs.declared.HeldModel.{HeldModel}
 use Rattle.held.specs.declared.HeldDelivery.the-variants as Held
 use Rattle.held.specs.declared.Numbers.{Numbers}
-use Rattle.held.specs.Held.{modelHeld, numbersHeld, noNumbers, shapeAs}
-use Rattle.filing.specs.Outcomes.{modelOutcome, fileOf, deliveryOutcome}
+use Rattle.delivery.specs.Merged.{mergedShape}
+use Rattle.held.specs.Held.{modelHeld, numbersHeld, noNumbers, shapeAs, shapeHeld}
+use Rattle.merging.specs.Numbers.{numbersMerged}
+use Rattle.filing.specs.Outcomes.{modelOutcome, fileOf, deliveryOutcome, mergeOutcome}
 use Rattle.filing.specs.Known.{markBy}
 use Rattle.calls.specs.declared.Mark.{Mark}
 use Rattle.register.specs.declared.Register.{Register}
 use Rattle.register.specs.declared.Filed.{Filed}
 use Rattle.register.specs.declared.Received.{Received}
+use Rattle.register.specs.Merging.{mergeBy, mergeDelivery}
 use Rattle.register.specs.Filing.{withModel, turnedDown, modelBy, fileModel, turnedAway, deliveryBy, shapeFor, fileDelivery}
 
 -- ---- filing a model
@@ -61,3 +64,27 @@ module _ (r : Register) (d : List ℕ) {o : Outcome} (found : o ≡ deliveryOutc
       (record { register = record { model = r .model; delivery = Held.Of h; numbers = n }; outcome = o; mark = m }) (fileDelivery r d)
   unfolding fileDelivery fileOf shapeFor
   delivery-filed e shape numbers same mark = rw (← found, not-refused o e, ← (rw same at shape), ← numbers, rw same at mark)
+
+-- ---- merging
+
+merge-by : (o : Outcome) (r : Register) (b d : List ℕ) → isRefused o ≡ true → turnedAway r o ≡ mergeBy o r b d
+merge-by Accepted r b d e = absurd (false≢true e)
+merge-by (Refused x i k) r b d e = refl
+
+module _ (r : Register) (d : List ℕ) {o : Outcome} (found : o ≡ mergeOutcome (r .model) (r .delivery) d) where
+  pub merge-turned-away : isRefused o ≡ true → turnedAway r o ≡ mergeDelivery r d
+  unfolding mergeDelivery
+  merge-turned-away e = rw (← found) (merge-by o r _ d e)
+
+  pub merge-filed : {h k j : Shape} {n : Numbers} {z : Sizes} {m : Mark} → isRefused o ≡ false
+      → h ≡ shapeHeld (r .delivery)
+      → k ≡ shapeAs (shapeOf (z .states) (z .symbols) d)
+      → j ≡ mergedShape h k
+      → n ≡ numbersMerged (take (r .model .length) (r .model .bytes)) h (r .numbers) k (numbersHeld (take (r .model .length) (r .model .bytes)) k d)
+      → z ≡ sizesOf (take (r .model .length) (r .model .bytes))
+      → m ≡ markBy (z .states) (z .symbols) (r .delivery) (r .numbers) j n
+      → _≡_ {A = Received}
+      (record { register = record { model = r .model; delivery = Held.Of j; numbers = n }; outcome = o; mark = m }) (mergeDelivery r d)
+  unfolding mergeDelivery fileOf shapeFor
+  merge-filed e held second shape numbers same mark =
+      rw (← found, not-refused o e, ← held, ← (rw same at second), ← shape, ← numbers, rw same at mark)

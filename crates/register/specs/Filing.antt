@@ -11,6 +11,7 @@ use Rattle.model.specs.Records.{statesOf, symbolsOf}
 use Rattle.delivery.specs.declared.shape.Shape.{Shape}
 use Rattle.delivery.specs.Shapes.{shapeOf}
 use Rattle.held.specs.declared.HeldDelivery.the-variants as Held
+use Rattle.held.specs.declared.Numbers.{Numbers}
 use Rattle.calls.specs.declared.Mark.the-variants.{Absent}
 use Rattle.register.specs.declared.Register.{Register}
 use Rattle.register.specs.declared.Filed.{Filed}
@@ -46,14 +47,18 @@ fileModel r b = modelBy (modelOutcome (r .model .length) b) r b
 unfoldable pub shapeFor : List ℕ → List ℕ → Shape
 shapeFor b d = shapeAs (shapeOf (statesOf b) (symbolsOf b) d)
 
+-- The register r with a delivery of shape h and these numbers for its model b, and the mark, by what r held.
+abbrev pub holdingNumbers : Register → List ℕ → Shape → Numbers → Received
+holdingNumbers r b h numbers =
+    record {
+      register = record { model = r .model; delivery = Held.Of h; numbers = numbers };
+      outcome = Accepted;
+      mark = markBy (statesOf b) (symbolsOf b) (r .delivery) (r .numbers) h numbers;
+    }
+
 -- The register r with the delivery d of shape h for its model b, and its mark.
 abbrev pub received : Register → List ℕ → Shape → List ℕ → Received
-received r b h d =
-    record {
-      register = record { model = r .model; delivery = Held.Of h; numbers = numbersHeld b h d };
-      outcome = Accepted;
-      mark = markBy (statesOf b) (symbolsOf b) (r .delivery) (r .numbers) h (numbersHeld b h d);
-    }
+received r b h d = holdingNumbers r b h (numbersHeld b h d)
 
 -- Filing the delivery d for the held model b, by the outcome.
 abbrev pub deliveryBy : Outcome → Register → List ℕ → List ℕ → Received

@@ -4,6 +4,7 @@ use calls::Answer;
 use calls::Mark;
 use filing::delivery_outcome;
 use filing::mark_by;
+use filing::merge_outcome;
 use filing::model_outcome;
 use held::HeldDelivery;
 use held::HeldModel;
@@ -12,8 +13,12 @@ use held::filing::model_of;
 use held::filing::numbers_of;
 use held::filing::shape_for;
 use held::holds_model;
+use held::is_held;
 use held::no_model;
 use held::no_numbers;
+use held::shape_held;
+use merging::merged_numbers;
+use merging::merged_shape;
 use model::format::MOST_ENTRIES;
 use model::sizes::sizes_of;
 use outcome::Outcome;
@@ -26,6 +31,7 @@ use questions::short::ShortRun;
 use rows::STARTS;
 ghost use mathlib.Core.Path.{_≡_};
 ghost use Rattle.register.specs.Filing.{cleared, turnedDown, fileModel, turnedAway, fileDelivery};
+ghost use Rattle.register.specs.Merging.{hasDelivery, mergeDelivery};
 ghost use Rattle.register.specs.Questions.{hasModel, shownOf, listsOf, viewOf, upperIn, lowerIn, meanIn, marginIn, liveIn, withinIn};
 
 // At most one model and one delivery: the held delivery's shape, and its numbers beside it.
@@ -55,7 +61,7 @@ fn model_refused(register: Register, outcome: Outcome) -> Filed
     Filed { register, outcome }
 }
 
-// So does a refused delivery, which gets no mark.
+// So does a refused delivery, filed or merged, which gets no mark.
 fn delivery_refused(kept: Register, outcome: Outcome) -> Received
     ensures { λ r. ⌜ r ≡ turnedAway kept outcome ⌝ }
 {
@@ -132,12 +138,51 @@ impl Register {
         }
     }
 
+    // Merges the held delivery with a second one for the held model. The mark compares what is made with the delivery that was held.
+    pub fn merge_delivery(self, file: &[u8]) -> Received
+        ensures { λ r. ⌜ r ≡ mergeDelivery self (now (file .entry)) ⌝ }
+    {
+        let held = self.model;
+        let delivery = self.delivery;
+        let former = self.numbers;
+        let found = merge_outcome(held, delivery, file);
+        if is_refused(found) {
+            return delivery_refused(self, found);
+        }
+        let length = held.length;
+        let bytes = held.bytes;
+        let model = &bytes[..length];
+        let n = sizes_of(model);
+        let first = shape_held(delivery);
+        let second = shape_for(file, n);
+        let shape = merged_shape(first, second);
+        let numbers = merged_numbers(model, n, first, former, second, file);
+        let mark = mark_by(n, delivery, former, shape, numbers);
+        Received {
+            register: Register {
+                model: held,
+                delivery: HeldDelivery::Of(shape),
+                numbers,
+            },
+            outcome: found,
+            mark,
+        }
+    }
+
     // Whether a model is held, on which the register's own reasons for a filing go.
     pub fn has_model(self) -> bool
         ensures { λ r. ⌜ r ≡ hasModel self ⌝ }
     {
         let length = self.model.length;
         holds_model(length)
+    }
+
+    // Whether a delivery is held, on which a merge goes too.
+    pub fn has_delivery(self) -> bool
+        ensures { λ r. ⌜ r ≡ hasDelivery self ⌝ }
+    {
+        let delivery = self.delivery;
+        is_held(delivery)
     }
 
     // What is held but for the lists of numbers.
