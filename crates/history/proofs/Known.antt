@@ -15,10 +15,10 @@ use Rattle.history.specs.Run.{history, replyTo}
 use Rattle.history.specs.Mission.{KnownHeld, HeldKnown}
 use Rattle.history.proofs.Same.{itself-same, same-bytes}
 use Rattle.history.proofs.Pairs.{Right}
-use Rattle.history.proofs.Plain.{right-pair, as-plain-pair}
+use Rattle.history.proofs.Plain.{right-pair, held-right, as-plain-pair}
 
 -- Known and new are two words.
-known-if : (t : Bool) → cond t known new ≡ known → t ≡ true
+pub known-if : (t : Bool) → cond t known new ≡ known → t ≡ true
 known-if true e = refl
 known-if false e = let z : _≡_ {A = ℕ} 0 1 = cc in absurd (omega arith)
 
@@ -39,10 +39,6 @@ known-by (some b) y d e = go (verdict b d) y e
     go Accepted none e = let z : _≡_ {A = ℕ} 0 1 = cc in absurd (omega arith)
     go Accepted (some former) e =
         record { model = b; former = former; held-model = refl; held-delivery = refl; same = known-if (sameDelivery b former d) e }
-
--- The held delivery was accepted for the held model.
-held-right : (m y : Option (List ℕ)) (b e : List ℕ) → Right m y → m ≡ some b → y ≡ some e → verdict b e ≡ Accepted
-held-right m y b e right model delivery = rw (model, delivery) at right
 
 pub known-held : (cs : List Call) → KnownHeld cs
 unfolding plainReply

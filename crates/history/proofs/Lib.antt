@@ -7,7 +7,9 @@ pub mod Plain
 pub mod Known
 pub mod Replies
 pub mod Named
+pub mod Merges
 pub mod Shown
+pub mod Sharpens
 pub mod Passages
 pub mod Mission
 pub mod KnownExactly

@@ -7,6 +7,8 @@ use Rattle.history.specs.Mission.{Mission}
 use Rattle.history.proofs.Refusals.{refused-keeps}
 use Rattle.history.proofs.Plain.{holds-pair, as-plain-pair, model-taken, counter-taken, counter-held, delivery-taken}
 use Rattle.history.proofs.Known.{known-held, held-known}
+use Rattle.history.proofs.Merges.{merge-taken, merge-held, merge-known, itself-known, merge-named}
+use Rattle.history.proofs.Sharpens.{merge-sharpens}
 use Rattle.history.proofs.Replies.{replies-as-plain}
 use Rattle.history.proofs.Named.{number-listed, model-named, counter-named, delivery-named}
 use Rattle.history.proofs.Shown.{upper-shown, lower-shown, mean-shown, live-shown, short-shown, short-under-upper}
@@ -23,9 +25,14 @@ mission cs = record {
   deliveries-marked = marked (registerAfter cs);
   known-held = known-held cs;
   held-known = held-known cs;
+  merges-taken = merge-taken cs;
+  merges-held = merge-held cs;
+  merges-known = merge-known cs;
+  itself-known = itself-known cs;
   models-named = model-named cs;
   counters-named = counter-named cs;
   deliveries-named = delivery-named cs;
+  merges-named = merge-named cs;
   pair-held = holds-pair cs;
   pair-shown = as-plain-pair cs;
   pair-shown-in-time = replies-as-plain cs;
@@ -33,6 +40,7 @@ mission cs = record {
   lowers-true = lower-shown cs;
   means-true = mean-shown cs;
   live-marks-true = live-shown cs;
+  merges-sharpen = merge-sharpens cs;
   short-chances-true = short-shown cs;
   short-chances-under-uppers = short-under-upper cs;
   passage-uppers-true = passage-upper-shown cs;

@@ -25,6 +25,7 @@ use Rattle.delivery.specs.declared.shape.Shaped.{Shaped}
 use Rattle.delivery.specs.declared.shape.Shaped.the-variants.{Of, Unknown}
 use Rattle.delivery.specs.Shapes.{hasLowers, hasMeans, shapeOf}
 use Rattle.delivery.specs.Numbers.{uppersOf, lowersOf, meansOf}
+use Rattle.delivery.specs.Merged.{merged}
 use Rattle.ppda.specs.Chances.{chance}
 use Rattle.model.specs.Rules.{rulesOf}
 use Rattle.verdict.specs.Marks.{liveMark}
@@ -33,7 +34,7 @@ use Rattle.verdict.proofs.Places.{delivery-number}
 use Rattle.certificate.specs.Margin.{marginOf}
 use Rattle.counter.specs.Verdict.{counterTests, counterVerdict}
 use Rattle.counter.proofs.Places.{counter-number}
-use Rattle.calls.specs.Calls.{Call, clear, fileModel, fileCounter, fileDelivery, upper, lower, meanSteps, margin, live, within, Reply, accepted, value, refused, taken}
+use Rattle.calls.specs.Calls.{Call, clear, fileModel, fileCounter, fileDelivery, merge, upper, lower, meanSteps, margin, live, within, Reply, accepted, value, refused, taken}
 use Rattle.calls.specs.Calls as Calls
 use Rattle.history.specs.Plain.{lastModel, lastDelivery, ofModel, ofDelivery, ifNone, ofBlock, byVerdict, markOf, plainReply}
 use Rattle.history.specs.Run.{replyTo, history}
@@ -64,18 +65,18 @@ by-verdict Accepted r t e = absurd (false≢true (sym (ap taken e) ∙ t))
 by-verdict (Refused x i k) r t e = (x, cc, cc)
 
 module _ (ts : List Test) (r : Reply) (stands : taken r ≡ true) {n i : ℕ} {k : ℤ} where
-  named : byVerdict (first ts) r ≡ refused n i k → Names ts n i k
+  pub named : byVerdict (first ts) r ≡ refused n i k → Names ts n i k
   named e =
       let (x, is, number) = by-verdict (first ts) r stands e in
       let (t, (found, same)) = first-failure ts x i k is in
       let reason : t .reason ≡ x = cc in
       record { test = t; failure = found; number-named = ap numberOf reason ∙ number; place-named = cc; shortfall-named = cc }
 
-  names : Names ts n i k → byVerdict (first ts) r ≡ refused n i k
+  pub names : Names ts n i k → byVerdict (first ts) r ≡ refused n i k
   names x = rw (refused-exactly ts (x .test) (x .failure), x .number-named, x .place-named, x .shortfall-named)
 
 -- Beside an accepted model the delivery's own tests decide.
-verdict-after : (b d : List ℕ) → modelVerdict b ≡ Accepted → verdict b d ≡ first (deliveryTests b d)
+pub verdict-after : (b d : List ℕ) → modelVerdict b ≡ Accepted → verdict b d ≡ first (deliveryTests b d)
 unfolding verdict modelVerdict
 verdict-after b d is = first-after (modelTests b) (deliveryTests b d) is
 
@@ -139,12 +140,19 @@ module _ {n i : ℕ} {k : ℤ} where
       inr (in-from 3 46 n (rw number at least) (omega (arith, rw number at most)))
   of-counter (some a) c e = inl cc
 
-  of-delivered : (b d : List ℕ) (y : Option (List ℕ)) → modelVerdict b ≡ Accepted → byVerdict (verdict b d) (markOf b y d) ≡ refused n i k
-      → In n (from 8 20)
-  of-delivered b d y is e =
-      let (x, found, number) = by-verdict (verdict b d) (markOf b y d) (mark-taken b d y) e in
+  -- A second delivery, or one that is filed, by the verdict on it.
+  of-judged : (b d : List ℕ) (r : Reply) → taken r ≡ true → modelVerdict b ≡ Accepted → byVerdict (verdict b d) r ≡ refused n i k → In n (from 8 20)
+  of-judged b d r stands is e =
+      let (x, found, number) = by-verdict (verdict b d) r stands e in
       let (least, most) = delivery-number b d x i k (sym (verdict-after b d is) ∙ found) in
       in-from 8 20 n (rw number at least) (omega (arith, rw number at most))
+
+  of-delivered : (b d : List ℕ) (y : Option (List ℕ)) → modelVerdict b ≡ Accepted → byVerdict (verdict b d) (markOf b y d) ≡ refused n i k
+      → In n (from 8 20)
+  of-delivered b d y is e = of-judged b d (markOf b y d) (mark-taken b d y) is e
+
+  of-merged : (b f d : List ℕ) → modelVerdict b ≡ Accepted → byVerdict (verdict b d) (markOf b (some f) (merged b f d)) ≡ refused n i k → In n (from 8 20)
+  of-merged b f d is e = of-judged b d _ (mark-taken b (merged b f d) (some f)) is e
 
 pub number-listed : (cs : List Call) → NumberListed cs
 unfolding plainReply
@@ -155,6 +163,9 @@ number-listed cs (fileDelivery d) n i k e =
     let y = lastDelivery (history cs) in
     of-model (lastModel (history cs)) (λ b. byVerdict (verdict b d) (markOf b y d)) (from 8 20)
     (λ b held. of-delivered b d y (model-held-right y (right-pair cs) held)) (sym (as-plain-pair cs (fileDelivery d)) ∙ e)
+number-listed cs (merge d) n i k e =
+    of-model (lastModel (history cs)) _ (42 ∷ from 8 20) (λ b held. of-delivery (lastDelivery (history cs)) _ (from 8 20)
+    (λ f. of-merged b f d (model-held-right (lastDelivery (history cs)) (right-pair cs) held))) (sym (as-plain-pair cs (merge d)) ∙ e)
 number-listed cs (upper p z q) n i k e =
     of-model (lastModel (history cs)) _ (42 ∷ 44 ∷ []) (λ b held. of-delivery (lastDelivery (history cs)) _ (44 ∷ [])
     (λ d. of-test ((ltb p (statesOf b) && ltb z (symbolsOf b)) && ltb q (statesOf b)) _ 44 [] (no-refusal (uppersOf (statesOf b) (symbolsOf b) d p z q) [])))

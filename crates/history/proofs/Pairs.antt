@@ -4,7 +4,7 @@ use native.Mathlib.Omega.{arith}
 use mathlib.Core.Bool.{Bool, true, false, cond, _&&_}
 use mathlib.Core.List.{List}
 use mathlib.Core.Option.{Option, none, some}
-use mathlib.Core.Path.{_≡_, refl, ap}
+use mathlib.Core.Path.{_≡_, refl, ap, _∙_}
 use lib.Dec.{ltb, leb}
 use lib.ListN.{length}
 use Rattle.outcome.specs.declared.Outcome.{Outcome}
@@ -30,9 +30,14 @@ use Rattle.held.specs.Held.{listed, listedRows, noModel, modelHeld, numbersHeld
 use Rattle.held.specs.Places.{hasRow, hasEntry, rowValue, entryValue}
 use Rattle.held.proofs.Listed.{listed-at, rows-at, filled-back}
 use Rattle.register.specs.Filing as Filing
-use Rattle.filing.specs.Outcomes.{modelOutcome, fileOf, deliveryOutcome}
+use Rattle.filing.specs.Outcomes.{modelOutcome, fileOf, deliveryOutcome, mergeOutcome}
 use Rattle.filing.specs.Known.{markBy}
 use Rattle.register.specs.Filing.{withModel, modelBy, deliveryBy, received, shapeFor}
+use Rattle.register.specs.Merging.{joined, mergeBy, mergeDelivery}
+use Rattle.delivery.specs.Merged.{mergedShape, merged}
+use Rattle.merging.specs.Numbers.{numbersMerged}
+use Rattle.merging.proofs.Accepted.{merged-file, merged-accepted}
+use Rattle.merging.proofs.Held.{merged-numbers}
 use Rattle.calls.specs.Answers.{answered}
 use Rattle.register.specs.Questions.{hasModel, upperIn, lowerIn, meanIn, marginIn, liveIn, withinIn}
 use Rattle.counter.specs.Verdict.{counterVerdict}
@@ -40,8 +45,8 @@ use Rattle.counter.specs.Made.{counterModel}
 use Rattle.counter.specs.Filing.{counterOutcome, counterBy}
 use Rattle.counter.specs.Filing as Counter
 use Rattle.counter.proofs.Made.{made-accepted}
-use Rattle.calls.specs.Calls.{Call, clear, fileModel, fileCounter, fileDelivery, upper, lower, meanSteps, margin, live, within, Reply, accepted, known, new, value, refusal, taken}
-use Rattle.history.specs.Plain.{Pair, ofModel, ofDelivery, ifNone, atRow, atEntry, ofBlock, toThree, byVerdict, sameDelivery, markOf, modelAfter, deliveryAfter, plainReply}
+use Rattle.calls.specs.Calls.{Call, clear, fileModel, fileCounter, fileDelivery, merge, upper, lower, meanSteps, margin, live, within, Reply, accepted, known, new, value, refusal, taken}
+use Rattle.history.specs.Plain.{Pair, ofModel, ofDelivery, ifNone, atRow, atEntry, ofBlock, toThree, byVerdict, sameDelivery, markOf, mergedWith, modelAfter, deliveryAfter, plainReply}
 use Rattle.calls.specs.Answers.{answeredOr, modelReply, markReply, deliveryReply, answerReply}
 use Rattle.outcome.specs.declared.Reason.the-variants.{TooManySteps}
 use Rattle.ppda.specs.Chances.{chance}
@@ -237,6 +242,24 @@ mark-taken b d (some e) = go (sameDelivery b e d)
     go true = refl
     go false = refl
 
+-- ---- a delivery merged
+
+module _ (b e d : List ℕ) (former : verdict b e ≡ Accepted) where
+  merge-by-verdict : mergeDelivery (holding (some b) (some e)) d ≡ mergeBy (verdict b d) (holding (some b) (some e)) b d
+  unfolding mergeDelivery mergeOutcome
+  merge-by-verdict = rw (model-held b (some e) former, file-held b (some e) former)
+
+  -- What is held of the two deliveries makes what is held of the merged file.
+  joined-is : verdict b d ≡ Accepted
+      → joined (holding (some b) (some e)) b (shapeFor b d) d
+      ≡ received (holding (some b) (some e)) b (shapeFor b (merged b e d)) (merged b e d)
+  unfolding shapeFor
+  joined-is is =
+      let one = delivery-accepted b e .0 former in
+      let other = delivery-accepted b d .0 is in
+      let file = merged-file b e d one other in
+      rw (one .delivery .shape, other .delivery .shape, file .shape, merged-numbers b e d one other)
+
 -- ---- the replies of a register that holds the pair of m and y
 
 cleared-holds : holdsModel (Filing.cleared .model .length) ≡ false
@@ -276,6 +299,22 @@ module _ (y : Option (List ℕ)) where
           ≡ byVerdict o (markOf b y d)
       go Accepted e = mark-reply b d y right e
       go (Refused x i k) e = refl
+
+merge-of-pair : (m y : Option (List ℕ)) → Right m y → (d : List ℕ)
+    → deliveryReply (mergeDelivery (holding m y) d .outcome) (mergeDelivery (holding m y) d .mark)
+    ≡ ofModel m (λ b. ofDelivery y (λ e. byVerdict (verdict b d) (markOf b (some e) (merged b e d))))
+unfolding mergeDelivery mergeOutcome withModel
+merge-of-pair none y right d = rw cleared-holds
+merge-of-pair (some b) none right d = rw (model-held b none right)
+merge-of-pair (some b) (some e) right d = rw (merge-by-verdict b e d right) (go (verdict b d) refl)
+  where
+    go : (o : Outcome) → verdict b d ≡ o →
+        let x = mergeBy o (holding (some b) (some e)) b d in
+        deliveryReply (x .outcome) (x .mark) ≡ byVerdict o (markOf b (some e) (merged b e d))
+    go Accepted is =
+        ap (λ x. deliveryReply (x .outcome) (x .mark)) (joined-is b e d right is)
+        ∙ mark-reply b (merged b e d) (some e) right (merged-accepted b e d right is)
+    go (Refused x i k) is = refl
 
 upper-of-pair : (m y : Option (List ℕ)) → Right m y → (p z q : ℕ) → answerReply (upperIn (holding m y) p z q)
     ≡ ofModel m (λ b. ofDelivery y (λ d. atEntry b p z q (value (uppersOf (statesOf b) (symbolsOf b) d p z q))))
@@ -323,6 +362,7 @@ reply-of-pair x right clear = refl
 reply-of-pair x right (fileModel b) = model-filed (x .delivery) (x .model) right b
 reply-of-pair x right (fileCounter c) = counter-filed (x .delivery) (x .model) right c
 reply-of-pair x right (fileDelivery d) = delivery-filed (x .delivery) (x .model) right d
+reply-of-pair x right (merge d) = merge-of-pair (x .model) (x .delivery) right d
 reply-of-pair x right (upper p z q) = upper-of-pair (x .model) (x .delivery) right p z q
 reply-of-pair x right (lower p z q) = lower-of-pair (x .model) (x .delivery) right p z q
 reply-of-pair x right (meanSteps p z) = mean-of-pair (x .model) (x .delivery) right p z
@@ -337,7 +377,7 @@ abbrev pub pairAfter : Pair → Call → Pair
 pairAfter x c =
     record {
       model = modelAfter c (taken (plainReply x c)) (x .model);
-      delivery = deliveryAfter c (taken (plainReply x c)) (x .delivery);
+      delivery = deliveryAfter c (taken (plainReply x c)) (x .model) (x .delivery);
     }
 
 pub record Next (x : Pair) (c : Call) : Type 0 where
@@ -387,12 +427,31 @@ module _ (y : Option (List ℕ)) where
       go Accepted e = rw (mark-taken b d y) (delivery-held b d y, e)
       go (Refused x i k) e = (refl, right)
 
+-- The merged file of two accepted deliveries is accepted.
+merge-after : (m y : Option (List ℕ)) → Right m y → (d : List ℕ) →
+    let t = taken (ofModel m (λ b. ofDelivery y (λ e. byVerdict (verdict b d) (markOf b (some e) (merged b e d))))) in
+    (mergeDelivery (holding m y) d .register ≡ holding m (cond t (mergedWith m y d) y)) × Right m (cond t (mergedWith m y d) y)
+unfolding mergeDelivery mergeOutcome withModel
+merge-after none y right d = (rw cleared-holds, right)
+merge-after (some b) none right d = (rw (model-held b none right), right)
+merge-after (some b) (some e) right d = rw (merge-by-verdict b e d right) (go (verdict b d) refl)
+  where
+    go : (o : Outcome) → verdict b d ≡ o →
+        let t = taken (byVerdict o (markOf b (some e) (merged b e d))) in
+        (mergeBy o (holding (some b) (some e)) b d .register ≡ holding (some b) (cond t (some (merged b e d)) (some e)))
+        × Right (some b) (cond t (some (merged b e d)) (some e))
+    go Accepted is =
+        rw (mark-taken b (merged b e d) (some e))
+        (ap (λ x. x .register) (joined-is b e d right is) ∙ delivery-held b (merged b e d) (some e), merged-accepted b e d right is)
+    go (Refused x i k) is = (refl, right)
+
 pub next-of-pair : (x : Pair) → Right (x .model) (x .delivery) → (c : Call) → Next x c
 unfolding afterCall plainReply registerOf
 next-of-pair x right clear = record { held = refl; right = refl }
 next-of-pair x right (fileModel b) = let (held, again) = model-after (x .delivery) (x .model) right b in record { held = held; right = again }
 next-of-pair x right (fileCounter c) = let (held, again) = counter-after (x .delivery) (x .model) right c in record { held = held; right = again }
 next-of-pair x right (fileDelivery d) = let (held, again) = delivery-after (x .delivery) (x .model) right d in record { held = held; right = again }
+next-of-pair x right (merge d) = let (held, again) = merge-after (x .model) (x .delivery) right d in record { held = held; right = again }
 next-of-pair x right (upper p z q) = record { held = refl; right = right }
 next-of-pair x right (lower p z q) = record { held = refl; right = right }
 next-of-pair x right (meanSteps p z) = record { held = refl; right = right }

@@ -47,6 +47,10 @@ holds-pair cs = held-after cs .pair
 pub right-pair : (cs : List Call) → Right (lastModel (history cs)) (lastDelivery (history cs))
 right-pair cs = held-after cs .right
 
+-- The held delivery is accepted for the held model.
+pub held-right : (m y : Option (List ℕ)) (b e : List ℕ) → Right m y → m ≡ some b → y ≡ some e → verdict b e ≡ Accepted
+held-right m y b e right model delivery = rw (model, delivery) at right
+
 pub as-plain-pair : (cs : List Call) → AsPlainPair cs
 as-plain-pair cs = replied cs (held-after cs)
 

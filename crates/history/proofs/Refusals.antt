@@ -11,10 +11,11 @@ use Rattle.register.specs.declared.Register.{Register}
 use Rattle.calls.specs.declared.Mark.{Mark}
 use Rattle.calls.specs.declared.Mark.the-variants.{Known, New, Absent}
 use Rattle.register.specs.Filing as Filing
-use Rattle.register.proofs.Keeps.{model-keeps, delivery-keeps}
+use Rattle.register.specs.Merging.{mergeDelivery}
+use Rattle.register.proofs.Keeps.{model-keeps, delivery-keeps, merge-keeps}
 use Rattle.counter.specs.Filing as Counter
 use Rattle.counter.proofs.Filing.{counter-keeps}
-use Rattle.calls.specs.Calls.{Call, clear, fileModel, fileCounter, fileDelivery, upper, lower, meanSteps, margin, live, within, refused}
+use Rattle.calls.specs.Calls.{Call, clear, fileModel, fileCounter, fileDelivery, merge, upper, lower, meanSteps, margin, live, within, refused}
 use Rattle.calls.specs.Answers.{modelReply, markReply, deliveryReply}
 use Rattle.history.specs.Run.{afterCall, replyOf}
 use Rattle.history.specs.Mission.{RefusedKeeps}
@@ -40,6 +41,7 @@ refused-keeps r clear n i k e = let z : _≡_ {A = ℕ} 0 1 = cc in absurd (omeg
 refused-keeps r (fileModel b) n i k e = model-keeps r b (model-refused (Filing.fileModel r b .outcome) e)
 refused-keeps r (fileCounter c) n i k e = counter-keeps r c (model-refused (Counter.fileCounter r c .outcome) e)
 refused-keeps r (fileDelivery d) n i k e = delivery-keeps r d (delivery-refused (Filing.fileDelivery r d .outcome) (Filing.fileDelivery r d .mark) e)
+refused-keeps r (merge d) n i k e = merge-keeps r d (delivery-refused (mergeDelivery r d .outcome) (mergeDelivery r d .mark) e)
 refused-keeps r (upper p z q) n i k e = refl
 refused-keeps r (lower p z q) n i k e = refl
 refused-keeps r (meanSteps p z) n i k e = refl

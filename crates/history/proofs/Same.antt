@@ -20,16 +20,21 @@ use Rattle.model.proofs.Accepted.{sized-fits}
 use Rattle.wellformed.proofs.Accepted.{model-accepted, sized-of}
 use Rattle.delivery.specs.declared.shape.Block.{Block}
 use Rattle.delivery.specs.declared.shape.Shape.{Shape}
+use Rattle.delivery.specs.declared.shape.Shape.the-variants.{U, UL, UR, ULR}
 use Rattle.delivery.specs.declared.shape.Shaped.{Shaped}
 use Rattle.delivery.specs.declared.shape.Shaped.the-variants.{Of, Unknown}
 use Rattle.delivery.specs.Format.{recordBytes}
 use Rattle.delivery.specs.Records.{valueAt}
 use Rattle.delivery.specs.Shapes.{hasLowers, hasMeans, sameShape, meansFrom, recordsIn, shapeOf}
 use Rattle.delivery.specs.Numbers.{uppersOf, lowersOf, meansOf}
+use Rattle.delivery.specs.Merged.{mergedShape, mergedMeans, merged}
+use Rattle.ppda.specs.Equations.{RowVector}
 use Rattle.delivery.proofs.Shapes.{same-shape, shape-long}
 use Rattle.delivery.proofs.Due.{each-record}
 use Rattle.delivery.proofs.Told.{SameFields, told-by-records}
-use Rattle.verdict.specs.Accepted.{RecordDue, DeliveryFile}
+use Rattle.verdict.specs.Accepted.{RecordDue, DeliveryFile, RightFiles}
+use Rattle.merging.proofs.Accepted.{merged-file}
+use Rattle.merging.proofs.Sharper.{uppers-joined, lowers-are, means-are}
 use Rattle.verdict.specs.Verdict.{verdict}
 use Rattle.verdict.proofs.Accepted.{delivery-accepted}
 use Rattle.certificate.proofs.Rest.{at-numbers, at-row-numbers}
@@ -198,3 +203,61 @@ same-bytes b e d former bytes bytes′ = (
   bytes-same b e d bytes bytes′,
   λ same. subst (λ x. sameDelivery b e x ≡ true) same (itself-same b e (delivery-accepted b e .0 former .delivery .shape)),
 )
+
+-- ---- a delivery merged with itself
+
+merged-itself-as : (h : Shape) → mergedShape h h ≡ h
+merged-itself-as U = refl
+merged-itself-as UL = refl
+merged-itself-as UR = refl
+merged-itself-as ULR = refl
+
+means-itself : (x : Bool) (r : RowVector) (p z : ℕ) → mergedMeans x x r r p z ≡ r p z
+means-itself true r p z = omega arith
+means-itself false r p z = refl
+
+module _ (b d : List ℕ) (one : RightFiles b d) where
+  file-itself : DeliveryFile b (merged b d d) (one .shaped)
+  file-itself = rw (merged-itself-as (one .shaped)) at (merged-file b d d one one)
+
+  uppers-itself : (i : ℕ) → i < entriesIn (statesOf b) (symbolsOf b) → sameRecord d (merged b d d) i ≡ true
+  unfolding uppersOf
+  uppers-itself =
+      at-numbers (λ i. sameRecord d (merged b d d) i ≡ true) (λ p z q hp hz hq.
+      due-same (one .delivery .uppers .due p z q hp hz hq) (file-itself .uppers .due p z q hp hz hq) .1
+      (let e = uppers-joined b d d one one p z q hp hz hq in omega (arith, e)))
+
+  lowers-itself : hasLowers (one .shaped) ≡ true → (i : ℕ) → i < entriesIn (statesOf b) (symbolsOf b)
+      → sameRecord d (merged b d d) (entriesIn (statesOf b) (symbolsOf b) + i) ≡ true
+  unfolding lowersOf
+  lowers-itself has =
+      at-numbers (λ i. sameRecord d (merged b d d) (entriesIn (statesOf b) (symbolsOf b) + i) ≡ true) (λ p z q hp hz hq.
+      due-same (one .delivery .lowers has .due p z q hp hz hq) (file-itself .lowers has .due p z q hp hz hq) .1
+      (let e = lowers-are b d d one one (ap hasLowers (merged-itself-as (one .shaped)) ∙ has) p z q hp hz hq in omega (arith, e)))
+
+  means-as-held : hasMeans (one .shaped) ≡ true → AtRows (statesOf b) (symbolsOf b) (λ p z.
+      meansOf (statesOf b) (symbolsOf b) (one .shaped) d p z ≡ meansOf (statesOf b) (symbolsOf b) (one .shaped) (merged b d d) p z)
+  means-as-held has p z hp hz =
+      let same = merged-itself-as (one .shaped) in
+      let e = means-are b d d one one (ap hasMeans same ∙ has) p z hp hz in
+      sym ((rw same at e) ∙ means-itself (hasMeans (one .shaped)) (meansOf (statesOf b) (symbolsOf b) (one .shaped) d) p z)
+
+  means-itself-at : hasMeans (one .shaped) ≡ true → (i : ℕ) → i < rowsIn (statesOf b) (symbolsOf b)
+      → sameRecord d (merged b d d) (meansFrom (statesOf b) (symbolsOf b) (one .shaped) + i) ≡ true
+  unfolding meansOf
+  means-itself-at has =
+      at-row-numbers (λ i. sameRecord d (merged b d d) (meansFrom (statesOf b) (symbolsOf b) (one .shaped) + i) ≡ true) (λ p z hp hz.
+      due-same (one .delivery .means has .due p z hp hz) (file-itself .means has .due p z hp hz) .1 (means-as-held has p z hp hz))
+
+-- Merging a delivery with itself makes the same delivery.
+pub merged-itself : (b d : List ℕ) → verdict b d ≡ Accepted → sameDelivery b d (merged b d d) ≡ true
+unfolding sameDelivery
+merged-itself b d is =
+    let one = delivery-accepted b d .0 is in
+    let h = one .shaped in
+    rw (one .delivery .shape, file-itself b d one .shape)
+    (both _ _ (same-shape h h) (all-exactly (sameRecord d (merged b d d)) _) .1 (
+      refl,
+      each-record (statesOf b) (symbolsOf b) h (λ i. sameRecord d (merged b d d) i ≡ true) .1
+      (uppers-itself b d one, (lowers-itself b d one, means-itself-at b d one)),
+    ))

@@ -58,34 +58,34 @@ test-passed : (t : Bool) (r : Reply) (k : ℕ) {n : ℕ} → cond t r (refusal k
 test-passed true r k e = (refl, e)
 test-passed false r k e = absurd (no-number e)
 
-block-asked : (has : Shape → Bool) (t : Shaped) (h : Shape → Reply) {n : ℕ} → ofBlock has t h ≡ value n
+pub block-asked : (has : Shape → Bool) (t : Shaped) (h : Shape → Reply) {n : ℕ} → ofBlock has t h ≡ value n
     → (k : Shape) × (t ≡ Of k) × (has k ≡ true) × (h k ≡ value n)
 block-asked has (Of k) h e = let (stands, same) = test-passed (has k) (h k) 43 e in (k, refl, stands, same)
 block-asked has Unknown h e = absurd (no-number e)
 
-entry-asked : (s g p z q : ℕ) (r : Reply) {n : ℕ} → cond ((ltb p s && ltb z g) && ltb q s) r (refusal 44) ≡ value n
+pub entry-asked : (s g p z q : ℕ) (r : Reply) {n : ℕ} → cond ((ltb p s && ltb z g) && ltb q s) r (refusal 44) ≡ value n
     → (p < s) × (z < g) × (q < s) × (r ≡ value n)
 entry-asked s g p z q r e =
     let (test, reply) = test-passed ((ltb p s && ltb z g) && ltb q s) r 44 e in
     let ((hp, hz), hq) = both _ _ (both _ _ (lt-exactly p s) (lt-exactly z g)) (lt-exactly q s) .0 test in
     (hp, hz, hq, reply)
 
-row-asked : (s g p z : ℕ) (r : Reply) {n : ℕ} → cond (ltb p s && ltb z g) r (refusal 44) ≡ value n → (p < s) × (z < g) × (r ≡ value n)
+pub row-asked : (s g p z : ℕ) (r : Reply) {n : ℕ} → cond (ltb p s && ltb z g) r (refusal 44) ≡ value n → (p < s) × (z < g) × (r ≡ value n)
 row-asked s g p z r e =
     let (test, reply) = test-passed (ltb p s && ltb z g) r 44 e in
     let (hp, hz) = both _ _ (lt-exactly p s) (lt-exactly z g) .0 test in
     (hp, hz, reply)
 
 -- The files that are held after the calls.
-record Files (cs : List Call) (b d : List ℕ) : Type 0 where
-  model : Holds cs b
-  delivery : lastDelivery (history cs) ≡ some d
-  accepted : verdict b d ≡ Accepted
+pub record Files (cs : List Call) (b d : List ℕ) : Type 0 where
+  pub model : Holds cs b
+  pub delivery : lastDelivery (history cs) ≡ some d
+  pub accepted : verdict b d ≡ Accepted
 
 files-right : {m y : Option (List ℕ)} {b d : List ℕ} → Right m y → m ≡ some b → y ≡ some d → verdict b d ≡ Accepted
 files-right right model delivery = rw (model, delivery) at right
 
-files-asked : (cs : List Call) (h : List ℕ → List ℕ → Reply) {n : ℕ}
+pub files-asked : (cs : List Call) (h : List ℕ → List ℕ → Reply) {n : ℕ}
     → ofModel (lastModel (history cs)) (λ b. ofDelivery (lastDelivery (history cs)) (h b)) ≡ value n
     → (b : List ℕ) × (d : List ℕ) × Files cs b d × (h b d ≡ value n)
 files-asked cs h e =

@@ -17,6 +17,7 @@ use Rattle.ppda.specs.Bounds.{AtMostUpper, UpperHolds, LowerHolds, MeanHolds}
 use Rattle.model.specs.Rules.{rulesOf}
 use Rattle.model.specs.Accepted.{ModelFile}
 use Rattle.wellformed.specs.Verdict.{modelTests}
+use Rattle.delivery.specs.Merged.{merged}
 use Rattle.verdict.specs.Verdict.{deliveryTests}
 use Rattle.verdict.specs.Accepted.{RightFiles}
 use Rattle.onecounter.specs.Passage.{firstPassage}
@@ -27,7 +28,7 @@ use Rattle.counter.specs.Accepted.{CounterFile}
 use Rattle.counter.specs.Made.{counterModel}
 use Rattle.register.specs.declared.Register.{Register}
 use Rattle.register.specs.Filing.{cleared, Marked}
-use Rattle.calls.specs.Calls.{Call, clear, fileModel, fileCounter, fileDelivery, upper, lower, meanSteps, margin, live, within, accepted, known, value, refused, taken}
+use Rattle.calls.specs.Calls.{Call, clear, fileModel, fileCounter, fileDelivery, merge, upper, lower, meanSteps, margin, live, within, accepted, known, value, refused, taken}
 use Rattle.history.specs.Plain.{lastModel, lastDelivery, pairOf, plainReply, plainReplies}
 use Rattle.history.specs.Run.{afterCall, replyOf, registerAfter, replyTo, history, replies, registerOf}
 
@@ -39,6 +40,7 @@ listed clear = []
 listed (fileModel b) = 41 ∷ 10 ∷ 11 ∷ 12 ∷ 13 ∷ 14 ∷ 15 ∷ []
 listed (fileCounter c) = 41 ∷ 46 ∷ 47 ∷ 48 ∷ []
 listed (fileDelivery d) = 40 ∷ 20 ∷ 21 ∷ 22 ∷ 23 ∷ 24 ∷ 25 ∷ 26 ∷ 27 ∷ []
+listed (merge d) = 40 ∷ 42 ∷ 20 ∷ 21 ∷ 22 ∷ 23 ∷ 24 ∷ 25 ∷ 26 ∷ 27 ∷ []
 listed (upper p z q) = 40 ∷ 42 ∷ 44 ∷ []
 listed (lower p z q) = 40 ∷ 42 ∷ 44 ∷ 43 ∷ []
 listed (meanSteps p z) = 40 ∷ 42 ∷ 44 ∷ 43 ∷ []
@@ -93,6 +95,26 @@ pub record HoldsCounter (cs : List Call) (c : List ℕ) : Type 0 where
 abbrev pub CounterHeld : List Call → Type 0
 CounterHeld cs = (c : List ℕ) → replyTo cs (fileCounter c) ≡ accepted → HoldsCounter (fileCounter c ∷ cs) c × ModelFile (counterModel c)
 
+-- Request A.5: a merge is accepted exactly where a model and a delivery are held and document 01's rules accept the second delivery for the held model.
+abbrev pub MergeTaken : List Call → Type 0
+MergeTaken cs =
+    (d : List ℕ) → (taken (replyTo cs (merge d)) ≡ true) ↔ ((b : List ℕ) × (e : List ℕ) × Holds cs b × HoldsDelivery cs e × RightFiles b d)
+
+-- After an accepted merge the merged file is held, and that is a right one: nothing more can fail.
+abbrev pub MergeHeld : List Call → Type 0
+MergeHeld cs =
+    (b e d : List ℕ) → Holds cs b → HoldsDelivery cs e → taken (replyTo cs (merge d)) ≡ true
+    → HoldsDelivery (merge d ∷ cs) (merged b e d) × RightFiles b (merged b e d)
+
+-- A merge is marked known where the merged file is the very file that was held, byte by byte, and no other; merging the held file with itself is known.
+abbrev pub MergeKnown : List Call → Type 0
+MergeKnown cs =
+    (b e d : List ℕ) → Holds cs b → HoldsDelivery cs e → Bytes e → taken (replyTo cs (merge d)) ≡ true
+    → (replyTo cs (merge d) ≡ known) ↔ (merged b e d ≡ e)
+
+abbrev pub ItselfKnown : List Call → Type 0
+ItselfKnown cs = (d : List ℕ) → HoldsDelivery cs d → replyTo cs (merge d) ≡ known
+
 -- A refusal that names the first of the tests that fails: its reason's number, its place and its shortfall.
 pub record Names (ts : List Test) (number place : ℕ) (shortfall : ℤ) : Type 0 where
   pub test : Test
@@ -116,6 +138,12 @@ abbrev pub DeliveryNamed : List Call → Type 0
 DeliveryNamed cs =
     (b d : List ℕ) (number place : ℕ) (shortfall : ℤ) → Holds cs b
     → (replyTo cs (fileDelivery d) ≡ refused number place shortfall) ↔ Names (deliveryTests b d) number place shortfall
+
+-- The same of a merge, where a model and a delivery are held: the tests of the second delivery alone.
+abbrev pub MergeNamed : List Call → Type 0
+MergeNamed cs =
+    (b e d : List ℕ) (number place : ℕ) (shortfall : ℤ) → Holds cs b → HoldsDelivery cs e
+    → (replyTo cs (merge d) ≡ refused number place shortfall) ↔ Names (deliveryTests b d) number place shortfall
 
 -- "The register shows the files last accepted since it was cleared and no others": it holds the plain pair and nothing else, and replies to every
 -- call as that pair would.
@@ -149,6 +177,12 @@ LowerShown cs = (p z q l : ℕ) → replyTo cs (lower p z q) ≡ value l → Low
 
 abbrev pub MeanShown : List Call → Type 0
 MeanShown cs = (p z r : ℕ) → replyTo cs (meanSteps p z) ≡ value r → (b : List ℕ) × Holds cs b × MeanHolds (rulesOf b) p z r
+
+-- Merging never makes what is shown less sharp (request A.5): of an upper, a lower or mean steps that are shown before a merge and after it.
+pub record MergeSharpens (cs : List Call) (d : List ℕ) : Type 0 where
+  pub uppers : (p z q u w : ℕ) → replyTo cs (upper p z q) ≡ value u → replyTo (merge d ∷ cs) (upper p z q) ≡ value w → w ≤ u
+  pub lowers : (p z q l k : ℕ) → replyTo cs (lower p z q) ≡ value l → replyTo (merge d ∷ cs) (lower p z q) ≡ value k → l ≤ k
+  pub means : (p z r t : ℕ) → replyTo cs (meanSteps p z) ≡ value r → replyTo (merge d ∷ cs) (meanSteps p z) ≡ value t → t ≤ r
 
 -- The live mark says live where some run empties the stack in q; it is 1 or 0.
 abbrev pub LiveShown : List Call → Type 0
@@ -206,10 +240,16 @@ pub record Mission (cs : List Call) : Type 0 where
   pub deliveries-marked : (d : List ℕ) → Marked (registerAfter cs) d
   pub known-held : KnownHeld cs
   pub held-known : HeldKnown cs
+  -- a merge is accepted where the second delivery is, and then the merged file is held, and known where it is the one held before (request A.5);
+  pub merges-taken : MergeTaken cs
+  pub merges-held : MergeHeld cs
+  pub merges-known : MergeKnown cs
+  pub itself-known : ItselfKnown cs
   -- "otherwise the first failure in the fixed order is named."
   pub models-named : ModelNamed cs
   pub counters-named : CounterNamed cs
   pub deliveries-named : DeliveryNamed cs
+  pub merges-named : MergeNamed cs
   -- "The register shows the files last accepted since it was cleared and no others."
   pub pair-held : HoldsPair cs
   pub pair-shown : AsPlainPair cs
@@ -220,6 +260,8 @@ pub record Mission (cs : List Call) : Type 0 where
   pub lowers-true : LowerShown cs
   pub means-true : MeanShown cs
   pub live-marks-true : LiveShown cs
+  -- A merge makes nothing that is shown less sharp (request A.5).
+  pub merges-sharpen : (d : List ℕ) → MergeSharpens cs d
   -- So are the chances of short runs, and they keep to the uppers (request A.1).
   pub short-chances-true : ShortShown cs
   pub short-chances-under-uppers : ShortUnderUpper cs

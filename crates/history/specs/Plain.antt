@@ -19,12 +19,13 @@ use Rattle.delivery.specs.declared.shape.Shaped.the-variants.{Of, Unknown}
 use Rattle.delivery.specs.Records.{kindAt, stateAt, symbolAt, exitAt, valueAt}
 use Rattle.delivery.specs.Shapes.{hasLowers, hasMeans, sameShape, recordsIn, shapeOf}
 use Rattle.delivery.specs.Numbers.{uppersOf, lowersOf, meansOf}
+use Rattle.delivery.specs.Merged.{merged}
 use Rattle.verdict.specs.Marks.{liveMark}
 use Rattle.verdict.specs.Verdict.{verdict}
 use Rattle.certificate.specs.Margin.{marginOf}
 use Rattle.counter.specs.Verdict.{counterVerdict}
 use Rattle.counter.specs.Made.{counterModel}
-use Rattle.calls.specs.Calls.{Call, clear, fileModel, fileCounter, fileDelivery, upper, lower, meanSteps, margin, live, within, Reply, cleared, accepted, known, new, value, refused, refusal, taken}
+use Rattle.calls.specs.Calls.{Call, clear, fileModel, fileCounter, fileDelivery, merge, upper, lower, meanSteps, margin, live, within, Reply, cleared, accepted, known, new, value, refused, refusal, taken}
 
 -- ---- which files are held
 
@@ -40,6 +41,7 @@ modelAfter clear t former = none
 modelAfter (fileModel b) t former = cond t (some b) former
 modelAfter (fileCounter c) t former = cond t (some (counterModel c)) former
 modelAfter (fileDelivery d) t former = former
+modelAfter (merge d) t former = former
 modelAfter (upper p z q) t former = former
 modelAfter (lower p z q) t former = former
 modelAfter (meanSteps p z) t former = former
@@ -51,22 +53,30 @@ unfoldable pub lastModel : List Event → Option (List ℕ)
 lastModel [] = none
 lastModel (e ∷ es) = modelAfter (e .call) (taken (e .reply)) (lastModel es)
 
--- The delivery last accepted for that model. One that was accepted before the model was is for another.
-abbrev pub deliveryAfter : Call → Bool → Option (List ℕ) → Option (List ℕ)
-deliveryAfter clear t former = none
-deliveryAfter (fileModel b) t former = cond t none former
-deliveryAfter (fileCounter c) t former = cond t none former
-deliveryAfter (fileDelivery d) t former = cond t (some d) former
-deliveryAfter (upper p z q) t former = former
-deliveryAfter (lower p z q) t former = former
-deliveryAfter (meanSteps p z) t former = former
-deliveryAfter margin t former = former
-deliveryAfter (live p z q) t former = former
-deliveryAfter (within n p z q) t former = former
+-- The file merged of the delivery that is held and d, for the model m that is held (request A.5).
+abbrev pub mergedWith : Option (List ℕ) → Option (List ℕ) → List ℕ → Option (List ℕ)
+mergedWith none former d = none
+mergedWith (some b) none d = none
+mergedWith (some b) (some e) d = some (merged b e d)
+
+-- The delivery last accepted for the model m that is held. One that was accepted before the model was is for another. Of a merge it is the merged file, which
+-- "counts as a file accepted" (request A.5).
+abbrev pub deliveryAfter : Call → Bool → Option (List ℕ) → Option (List ℕ) → Option (List ℕ)
+deliveryAfter clear t m former = none
+deliveryAfter (fileModel b) t m former = cond t none former
+deliveryAfter (fileCounter c) t m former = cond t none former
+deliveryAfter (fileDelivery d) t m former = cond t (some d) former
+deliveryAfter (merge d) t m former = cond t (mergedWith m former d) former
+deliveryAfter (upper p z q) t m former = former
+deliveryAfter (lower p z q) t m former = former
+deliveryAfter (meanSteps p z) t m former = former
+deliveryAfter margin t m former = former
+deliveryAfter (live p z q) t m former = former
+deliveryAfter (within n p z q) t m former = former
 
 unfoldable pub lastDelivery : List Event → Option (List ℕ)
 lastDelivery [] = none
-lastDelivery (e ∷ es) = deliveryAfter (e .call) (taken (e .reply)) (lastDelivery es)
+lastDelivery (e ∷ es) = deliveryAfter (e .call) (taken (e .reply)) (lastModel es) (lastDelivery es)
 
 -- The plain pair.
 pub record Pair : Type 0 where
@@ -143,6 +153,10 @@ plainReply x (fileModel b) = ifNone (x .model) (byVerdict (modelVerdict b) accep
 -- Request A.2: 41 first, then the verdict on the counter file. No verdict on the model that it makes: that can fail nothing (`made-accepted`, crate counter).
 plainReply x (fileCounter c) = ifNone (x .model) (byVerdict (counterVerdict c) accepted)
 plainReply x (fileDelivery d) = ofModel (x .model) (λ b. byVerdict (verdict b d) (markOf b (x .delivery) d))
+-- Request A.5: 40 and 42 first, then the verdict on the second delivery. No verdict on the merged one: that can fail nothing (`merged-accepted`, crate merging).
+-- "Its mark compares it with the delivery held before the merge."
+plainReply x (merge d) =
+    ofModel (x .model) (λ b. ofDelivery (x .delivery) (λ e. byVerdict (verdict b d) (markOf b (some e) (merged b e d))))
 plainReply x (upper p z q) =
     ofModel (x .model) (λ b. ofDelivery (x .delivery) (λ d. atEntry b p z q (value (uppersOf (statesOf b) (symbolsOf b) d p z q))))
 plainReply x (lower p z q) =

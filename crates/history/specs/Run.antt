@@ -5,9 +5,10 @@ use mathlib.Core.Option.{Option, none, some}
 use Rattle.calls.specs.Answers.{modelReply, deliveryReply, answerReply}
 use Rattle.register.specs.declared.Register.{Register}
 use Rattle.register.specs.Filing as Filing
+use Rattle.register.specs.Merging.{mergeDelivery}
 use Rattle.counter.specs.Filing as Counter
 use Rattle.register.specs.Questions.{upperIn, lowerIn, meanIn, marginIn, liveIn, withinIn}
-use Rattle.calls.specs.Calls.{Call, clear, fileModel, fileCounter, fileDelivery, upper, lower, meanSteps, margin, live, within, Reply, cleared}
+use Rattle.calls.specs.Calls.{Call, clear, fileModel, fileCounter, fileDelivery, merge, upper, lower, meanSteps, margin, live, within, Reply, cleared}
 use Rattle.history.specs.Plain.{Event, Pair}
 
 -- The register after a call, and the reply.
@@ -16,6 +17,7 @@ afterCall r clear = Filing.cleared
 afterCall r (fileModel b) = Filing.fileModel r b .register
 afterCall r (fileCounter c) = Counter.fileCounter r c .register
 afterCall r (fileDelivery d) = Filing.fileDelivery r d .register
+afterCall r (merge d) = mergeDelivery r d .register
 afterCall r (upper p z q) = r
 afterCall r (lower p z q) = r
 afterCall r (meanSteps p z) = r
@@ -28,6 +30,7 @@ replyOf r clear = cleared
 replyOf r (fileModel b) = modelReply (Filing.fileModel r b .outcome)
 replyOf r (fileCounter c) = modelReply (Counter.fileCounter r c .outcome)
 replyOf r (fileDelivery d) = deliveryReply (Filing.fileDelivery r d .outcome) (Filing.fileDelivery r d .mark)
+replyOf r (merge d) = deliveryReply (mergeDelivery r d .outcome) (mergeDelivery r d .mark)
 replyOf r (upper p z q) = answerReply (upperIn r p z q)
 replyOf r (lower p z q) = answerReply (lowerIn r p z q)
 replyOf r (meanSteps p z) = answerReply (meanIn r p z)

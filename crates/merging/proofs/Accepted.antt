@@ -31,7 +31,8 @@ use Rattle.delivery.specs.Numbers.{uppersOf, lowersOf, meansOf}
 use Rattle.delivery.specs.Made.{NumbersFit}
 use Rattle.delivery.specs.Merged.{mergedShape, mergedMeans, mergedOf, merged}
 use Rattle.delivery.proofs.Due.{due-exactly, range-exactly, AtRecords}
-use Rattle.delivery.proofs.Made.{right-of-made}
+use Rattle.words.specs.Words.{Bytes}
+use Rattle.delivery.proofs.Made.{right-of-made, bytes-of-made}
 use Rattle.delivery.proofs.Merged.{lowers-with, means-with, merged-is, mean-either, merged-shape, merged-uppers, merged-lowers, merged-means}
 use Rattle.verdict.specs.Accepted.{RecordDue, UppersRight, LowersRight, MeansRight, DeliveryFile, RightFiles}
 use Rattle.verdict.specs.Verdict.{verdict}
@@ -210,3 +211,11 @@ merged-right b e d one other =
 pub merged-accepted : (b e d : List ℕ) → verdict b e ≡ Accepted → verdict b d ≡ Accepted → verdict b (merged b e d) ≡ Accepted
 merged-accepted b e d one other =
     delivery-accepted b (merged b e d) .1 (merged-right b e d (delivery-accepted b e .0 one) (delivery-accepted b d .0 other))
+
+-- The merged file is bytes.
+pub merged-bytes : (b e d : List ℕ) → RightFiles b e → RightFiles b d → Bytes (merged b e d)
+unfolding mergedOf
+merged-bytes b e d one other =
+    let fits = sized-fits (sized-of (model-accepted b .1 (one .model)) refl refl) in
+    rw (merged-is b e d (one .delivery .shape) (other .delivery .shape))
+    (bytes-of-made (statesOf b) (symbolsOf b) (mergedShape (one .shaped) (other .shaped)) _ _ _ (omega (arith, fits .few-states)) (omega (arith, fits .few-symbols)))

@@ -58,15 +58,15 @@ module _ (b e d : List ℕ) (one : RightFiles b e) (other : RightFiles b d) wher
   file-is : merged b e d ≡ mergedOf (statesOf b) (symbolsOf b) (one .shaped) (other .shaped) e d
   file-is = merged-is b e d (one .delivery .shape) (other .delivery .shape)
 
-  uppers-joined : Same (statesOf b) (symbolsOf b) (uppersOf (statesOf b) (symbolsOf b) (merged b e d))
+  pub uppers-joined : Same (statesOf b) (symbolsOf b) (uppersOf (statesOf b) (symbolsOf b) (merged b e d))
       (smaller (uppersOf (statesOf b) (symbolsOf b) e) (uppersOf (statesOf b) (symbolsOf b) d))
   uppers-joined = rw file-is (merged-uppers (statesOf b) (symbolsOf b) (one .shaped) (other .shaped) e d (files-fit b e d one other))
 
-  lowers-are : hasLowers joined ≡ true → Same (statesOf b) (symbolsOf b) (lowersOf (statesOf b) (symbolsOf b) (merged b e d))
+  pub lowers-are : hasLowers joined ≡ true → Same (statesOf b) (symbolsOf b) (lowersOf (statesOf b) (symbolsOf b) (merged b e d))
       (larger (lowersOf (statesOf b) (symbolsOf b) e) (lowersOf (statesOf b) (symbolsOf b) d))
   lowers-are has = rw file-is (merged-lowers (statesOf b) (symbolsOf b) (one .shaped) (other .shaped) e d (files-fit b e d one other) has)
 
-  means-are : hasMeans joined ≡ true → SameRows (statesOf b) (symbolsOf b) (meansOf (statesOf b) (symbolsOf b) joined (merged b e d))
+  pub means-are : hasMeans joined ≡ true → SameRows (statesOf b) (symbolsOf b) (meansOf (statesOf b) (symbolsOf b) joined (merged b e d))
       (mergedMeans (hasMeans (one .shaped)) (hasMeans (other .shaped)) (meansOf (statesOf b) (symbolsOf b) (one .shaped) e)
       (meansOf (statesOf b) (symbolsOf b) (other .shaped) d))
   means-are has = rw file-is (merged-means (statesOf b) (symbolsOf b) (one .shaped) (other .shaped) e d (files-fit b e d one other) has)
