@@ -259,5 +259,5 @@ merged-itself b d is =
     (both _ _ (same-shape h h) (all-exactly (sameRecord d (merged b d d)) _) .1 (
       refl,
       each-record (statesOf b) (symbolsOf b) h (λ i. sameRecord d (merged b d d) i ≡ true) .1
-      (uppers-itself b d one, (lowers-itself b d one, means-itself-at b d one)),
+          (uppers-itself b d one, (lowers-itself b d one, means-itself-at b d one)),
     ))

@@ -113,7 +113,7 @@ merge-sharpens cs d = record {
   uppers = λ p z q u w asked again.
       let (b, e, before, was) = files-asked cs (λ b d. atEntry b p z q (value (uppersOf (statesOf b) (symbolsOf b) d p z q))) (sym (as-plain-pair cs (upper p z q)) ∙ asked) in
       let (a, c, after, is) = files-asked (merge d ∷ cs) (λ b d. atEntry b p z q (value (uppersOf (statesOf b) (symbolsOf b) d p z q)))
-          (sym (as-plain-pair (merge d ∷ cs) (upper p z q)) ∙ again) in
+      (sym (as-plain-pair (merge d ∷ cs) (upper p z q)) ∙ again) in
       let same : a ≡ b = let x : some a ≡ some b = sym (model-kept cs d a (after .model)) ∙ before .model in cc in
       upper-sharper cs b e c d before (one-model cs d b a c (before .model) after) p z q u w was (rw same at is);
   lowers = λ p z q l k asked again.

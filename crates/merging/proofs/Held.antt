@@ -86,12 +86,17 @@ merged-numbers b e d one other =
     let fit = files-fit b e d one other in
     let uppers = merged-uppers s g h k e d fit in
     let listed-uppers : keptTo Smaller (entriesIn s g) (listed s g (uppersOf s g e)) (listed s g (uppersOf s g d))
-        ≡ listed s g (uppersOf s g (mergedOf s g h k e d)) =
-        smaller-listed fits (uppersOf s g e) (uppersOf s g d) ∙ sym (listed-cong s g _ _ (fits .few-entries) uppers) in
-    rw (merged-is b e d (one .delivery .shape) (other .delivery .shape), listed-uppers, lowers-with (hasLowers h && hasLowers k) (hasMeans h || hasMeans k), means-with (hasLowers h && hasLowers k) (hasMeans h || hasMeans k),
-    lowers-listed fits (hasLowers h) (hasLowers k) (lowersOf s g e) (lowersOf s g d) (lowersOf s g (mergedOf s g h k e d))
-    (λ has. merged-lowers s g h k e d fit (lowers-with (hasLowers h && hasLowers k) (hasMeans h || hasMeans k) ∙ has)),
-    means-listed fits (hasMeans h) (hasMeans k) (meansOf s g h e) (meansOf s g k d) (meansOf s g (mergedShape h k) (mergedOf s g h k e d))
-    (λ has. merged-means s g h k e d fit (means-with (hasLowers h && hasLowers k) (hasMeans h || hasMeans k) ∙ has)),
-    margin-same model (entries s g (listed s g (uppersOf s g (mergedOf s g h k e d)))) (uppersOf s g (mergedOf s g h k e d))
-    (λ p z q hp hz hq. listed-at s g (uppersOf s g (mergedOf s g h k e d)) p z q hp hz hq (fits .few-entries)))
+    ≡ listed s g (uppersOf s g (mergedOf s g h k e d)) =
+    smaller-listed fits (uppersOf s g e) (uppersOf s g d) ∙ sym (listed-cong s g _ _ (fits .few-entries) uppers) in
+    rw (
+      merged-is b e d (one .delivery .shape) (other .delivery .shape),
+      listed-uppers,
+      lowers-with (hasLowers h && hasLowers k) (hasMeans h || hasMeans k),
+      means-with (hasLowers h && hasLowers k) (hasMeans h || hasMeans k),
+      lowers-listed fits (hasLowers h) (hasLowers k) (lowersOf s g e) (lowersOf s g d) (lowersOf s g (mergedOf s g h k e d))
+          (λ has. merged-lowers s g h k e d fit (lowers-with (hasLowers h && hasLowers k) (hasMeans h || hasMeans k) ∙ has)),
+      means-listed fits (hasMeans h) (hasMeans k) (meansOf s g h e) (meansOf s g k d) (meansOf s g (mergedShape h k) (mergedOf s g h k e d))
+          (λ has. merged-means s g h k e d fit (means-with (hasLowers h && hasLowers k) (hasMeans h || hasMeans k) ∙ has)),
+      margin-same model (entries s g (listed s g (uppersOf s g (mergedOf s g h k e d)))) (uppersOf s g (mergedOf s g h k e d))
+          (λ p z q hp hz hq. listed-at s g (uppersOf s g (mergedOf s g h k e d)) p z q hp hz hq (fits .few-entries)),
+    )

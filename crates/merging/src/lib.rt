@@ -72,12 +72,8 @@ fn kept(which: Keep, a: u32, b: u32) -> u32
     ensures { λ r. ⌜ r ≡ kept which a b ⌝ }
 {
     match which {
-        Keep::Smaller => {
-            if a < b { a } else { b }
-        }
-        Keep::Larger => {
-            if a < b { b } else { a }
-        }
+        Keep::Smaller => { if a < b { a } else { b } }
+        Keep::Larger => { if a < b { b } else { a } }
     }
 }
 

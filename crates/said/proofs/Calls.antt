@@ -12,11 +12,11 @@ use Rattle.spelling.proofs.Words.{same-is, pieces-split}
 use Rattle.spelling.proofs.Rest.{part-from}
 use Rattle.said.specs.declared.Said.{Said}
 use Rattle.calls.specs.declared.Question.the-variants.{Upper, Lower, MeanSteps, Margin, Live, Within}
-use Rattle.said.specs.declared.Change.the-variants.{Clear, Model, Counter, Delivery}
+use Rattle.said.specs.declared.Change.the-variants.{Clear, Model, Counter, Delivery, Merge}
 use Rattle.said.specs.declared.Said.the-variants as Says
 use Rattle.said.specs.declared.Said.the-variants.{Nothing, Unclear}
 use Rattle.said.specs.Said.{isSilent, alone, onFile, onRow, onEntry, onSteps, byWord, saidBy}
-use Rattle.said.specs.Said.{clearWord, modelWord, counterWord, deliveryWord, upperWord, lowerWord, stepsWord, marginWord, liveWord, withinWord}
+use Rattle.said.specs.Said.{clearWord, modelWord, counterWord, deliveryWord, mergeWord, upperWord, lowerWord, stepsWord, marginWord, liveWord, withinWord}
 
 -- Each call by its word.
 module _ (w : List ℕ) (ws : List (List ℕ)) where
@@ -35,6 +35,10 @@ module _ (w : List ℕ) (ws : List (List ℕ)) where
   pub says-delivery : same w deliveryWord ≡ true → byWord w ws ≡ onFile (Says.Change Delivery) ws
   unfolding byWord same
   says-delivery e = rw (same-is w deliveryWord e)
+
+  pub says-merge : same w mergeWord ≡ true → byWord w ws ≡ onFile (Says.Change Merge) ws
+  unfolding byWord same
+  says-merge e = rw (same-is w mergeWord e)
 
   pub says-upper : same w upperWord ≡ true → byWord w ws ≡ onEntry Upper ws
   unfolding byWord same
@@ -62,10 +66,10 @@ module _ (w : List ℕ) (ws : List (List ℕ)) where
 
   -- Any other word.
   pub says-none : same w clearWord ≡ false → same w modelWord ≡ false → same w counterWord ≡ false → same w deliveryWord ≡ false
-      → same w upperWord ≡ false → same w lowerWord ≡ false → same w stepsWord ≡ false → same w marginWord ≡ false → same w liveWord ≡ false
+      → same w mergeWord ≡ false → same w upperWord ≡ false → same w lowerWord ≡ false → same w stepsWord ≡ false → same w marginWord ≡ false → same w liveWord ≡ false
       → same w withinWord ≡ false → byWord w ws ≡ Unclear
   unfolding byWord
-  says-none a b c d e f g h i j = rw (a, b, c, d, e, f, g, h, i, j)
+  says-none a b c d m e f g h i j = rw (a, b, c, d, m, e, f, g, h, i, j)
 
 -- A line that gets no reply is empty, or its byte 0 is `#`.
 pub silent-none : (l : List ℕ) → length l ≡ 0 → isSilent l ≡ true

@@ -17,13 +17,13 @@ use Rattle.spelling.proofs.Rest.{name-of}
 use Rattle.said.specs.declared.Said.{Said}
 use Rattle.calls.specs.declared.Question.{Question}
 use Rattle.calls.specs.declared.Question.the-variants.{Upper, Lower, MeanSteps, Margin, Live, Within}
-use Rattle.said.specs.declared.Change.the-variants.{Clear, Model, Counter, Delivery}
+use Rattle.said.specs.declared.Change.the-variants.{Clear, Model, Counter, Delivery, Merge}
 use Rattle.said.specs.declared.Said.the-variants as Says
 use Rattle.said.specs.declared.Said.the-variants.{Nothing, Unclear}
 use Rattle.said.specs.Said.{isSilent, alone, onFile, onRow, onEntry, onSteps, byWord, saidBy}
-use Rattle.said.specs.Said.{clearWord, modelWord, counterWord, deliveryWord, upperWord, lowerWord, stepsWord, marginWord, liveWord, withinWord}
+use Rattle.said.specs.Said.{clearWord, modelWord, counterWord, deliveryWord, mergeWord, upperWord, lowerWord, stepsWord, marginWord, liveWord, withinWord}
 use Rattle.said.specs.Contracts.{FileLine}
-use Rattle.said.proofs.Calls.{says-model, says-counter, says-delivery, line-says, silent-says, odd-says}
+use Rattle.said.proofs.Calls.{says-model, says-counter, says-delivery, says-merge, line-says, silent-says, odd-says}
 
 -- ---- lines that say no call
 
@@ -114,19 +114,20 @@ module _ (f : Said → Bool) (unclear : f Unclear ≡ false) where
 
   word-down : (w : List ℕ) (ws : List (List ℕ)) → f (Says.Change Clear) ≡ false → (same w modelWord ≡ true → f (Says.Change Model) ≡ false)
       → (same w counterWord ≡ true → f (Says.Change Counter) ≡ false) → (same w deliveryWord ≡ true → f (Says.Change Delivery) ≡ false)
-      → ((a : Question) → f (Says.Question a) ≡ false) → f (byWord w ws) ≡ false
+      → (same w mergeWord ≡ true → f (Says.Change Merge) ≡ false) → ((a : Question) → f (Says.Question a) ≡ false) → f (byWord w ws) ≡ false
   unfolding byWord
-  word-down w ws clear model counter delivery question =
+  word-down w ws clear model counter delivery merge question =
       either (same w clearWord) _ _ (λ t. alone-down (Says.Change Clear) ws clear)
       (either (same w modelWord) _ _ (λ t. file-down (Says.Change Model) ws (model t))
       (either (same w counterWord) _ _ (λ t. file-down (Says.Change Counter) ws (counter t))
       (either (same w deliveryWord) _ _ (λ t. file-down (Says.Change Delivery) ws (delivery t))
+      (either (same w mergeWord) _ _ (λ t. file-down (Says.Change Merge) ws (merge t))
       (either (same w upperWord) _ _ (λ t. entry-down Upper ws question)
       (either (same w lowerWord) _ _ (λ t. entry-down Lower ws question)
       (either (same w stepsWord) _ _ (λ t. row-down MeanSteps ws question)
       (either (same w marginWord) _ _ (λ t. alone-down (Says.Question Margin) ws (question Margin))
       (either (same w liveWord) _ _ (λ t. entry-down Live ws question)
-      (either (same w withinWord) _ _ (λ t. steps-down Within ws question) unclear)))))))))
+      (either (same w withinWord) _ _ (λ t. steps-down Within ws question) unclear))))))))))
 
 -- The flags of a reply that is none, and of the filings.
 abbrev isNothing : Said → Bool
@@ -142,6 +143,7 @@ isModel (Says.Change Clear) = false
 isModel (Says.Change Model) = true
 isModel (Says.Change Counter) = false
 isModel (Says.Change Delivery) = false
+isModel (Says.Change Merge) = false
 isModel (Says.Question a) = false
 
 abbrev isCounter : Said → Bool
@@ -151,6 +153,7 @@ isCounter (Says.Change Clear) = false
 isCounter (Says.Change Model) = false
 isCounter (Says.Change Counter) = true
 isCounter (Says.Change Delivery) = false
+isCounter (Says.Change Merge) = false
 isCounter (Says.Question a) = false
 
 abbrev isDelivery : Said → Bool
@@ -160,7 +163,18 @@ isDelivery (Says.Change Clear) = false
 isDelivery (Says.Change Model) = false
 isDelivery (Says.Change Counter) = false
 isDelivery (Says.Change Delivery) = true
+isDelivery (Says.Change Merge) = false
 isDelivery (Says.Question a) = false
+
+abbrev isMerge : Said → Bool
+isMerge Nothing = false
+isMerge Unclear = false
+isMerge (Says.Change Clear) = false
+isMerge (Says.Change Model) = false
+isMerge (Says.Change Counter) = false
+isMerge (Says.Change Delivery) = false
+isMerge (Says.Change Merge) = true
+isMerge (Says.Question a) = false
 
 -- What a line says that says anything but `Nothing` and `Unclear`, it says by its words.
 record Spoken (line : List ℕ) : Type 0 where
@@ -177,7 +191,7 @@ nothing-is-silent line e = go (isSilent line) refl (isPlain line) refl
     go false loud true plain =
         absurd
         (false≢true
-        (sym (word-down isNothing refl _ _ refl (λ t. refl) (λ t. refl) (λ t. refl) (λ a. refl))
+        (sym (word-down isNothing refl _ _ refl (λ t. refl) (λ t. refl) (λ t. refl) (λ t. refl) (λ a. refl))
         ∙ ap isNothing (sym (line-says line loud plain) ∙ e)))
 
 spoken : (line : List ℕ) (f : Said → Bool) → f Nothing ≡ false → f Unclear ≡ false → f (saidBy line) ≡ true → Spoken line
@@ -247,21 +261,27 @@ filing-names f word line call up nothing unclear other by e = go (same first wor
     go true is true file = file-line word line (said .plain) (same-is first word is) file
 
 -- The name in a line that files a model is its bytes from number 6 on, in one that files a counter machine those from number 8 on, and in one that files a
--- delivery those from number 9 on.
+-- delivery those from number 9 on; in one that merges, those from number 6 on.
 pub model-names : (line : List ℕ) → saidBy line ≡ Says.Change Model → FileLine modelWord line
 model-names line e =
     filing-names isModel modelWord line (Says.Change Model) refl refl refl
-    (λ w ws is. word-down isModel refl w ws refl (λ t. absurd (false≢true (sym is ∙ t))) (λ t. refl) (λ t. refl) (λ a. refl))
+    (λ w ws is. word-down isModel refl w ws refl (λ t. absurd (false≢true (sym is ∙ t))) (λ t. refl) (λ t. refl) (λ t. refl) (λ a. refl))
     says-model e
 
 pub counter-names : (line : List ℕ) → saidBy line ≡ Says.Change Counter → FileLine counterWord line
 counter-names line e =
     filing-names isCounter counterWord line (Says.Change Counter) refl refl refl
-    (λ w ws is. word-down isCounter refl w ws refl (λ t. refl) (λ t. absurd (false≢true (sym is ∙ t))) (λ t. refl) (λ a. refl))
+    (λ w ws is. word-down isCounter refl w ws refl (λ t. refl) (λ t. absurd (false≢true (sym is ∙ t))) (λ t. refl) (λ t. refl) (λ a. refl))
     says-counter e
 
 pub delivery-names : (line : List ℕ) → saidBy line ≡ Says.Change Delivery → FileLine deliveryWord line
 delivery-names line e =
     filing-names isDelivery deliveryWord line (Says.Change Delivery) refl refl refl
-    (λ w ws is. word-down isDelivery refl w ws refl (λ t. refl) (λ t. refl) (λ t. absurd (false≢true (sym is ∙ t))) (λ a. refl))
+    (λ w ws is. word-down isDelivery refl w ws refl (λ t. refl) (λ t. refl) (λ t. absurd (false≢true (sym is ∙ t))) (λ t. refl) (λ a. refl))
     says-delivery e
+
+pub merge-names : (line : List ℕ) → saidBy line ≡ Says.Change Merge → FileLine mergeWord line
+merge-names line e =
+    filing-names isMerge mergeWord line (Says.Change Merge) refl refl refl
+    (λ w ws is. word-down isMerge refl w ws refl (λ t. refl) (λ t. refl) (λ t. refl) (λ t. absurd (false≢true (sym is ∙ t))) (λ a. refl))
+    says-merge e

@@ -5,7 +5,7 @@ use mathlib.Core.List.{List, [], _∷_}
 use lib.ListN.{replicate}
 use Rattle.said.specs.declared.Said.{Said}
 use Rattle.calls.specs.declared.Question.the-variants.{Upper, Lower, MeanSteps, Margin, Live, Within}
-use Rattle.said.specs.declared.Change.the-variants.{Clear, Model, Counter, Delivery}
+use Rattle.said.specs.declared.Change.the-variants.{Clear, Model, Counter, Delivery, Merge}
 use Rattle.said.specs.declared.Said.the-variants.{Nothing, Unclear, Change, Question}
 use Rattle.said.specs.Said.{saidBy}
 
@@ -39,6 +39,14 @@ lines =
     ∷ says (99 ∷ 111 ∷ 117 ∷ 110 ∷ 116 ∷ 101 ∷ 114 ∷ 115 ∷ 32 ∷ 97 ∷ []) Unclear
     -- delivery a
     ∷ says (100 ∷ 101 ∷ 108 ∷ 105 ∷ 118 ∷ 101 ∷ 114 ∷ 121 ∷ 32 ∷ 97 ∷ []) (Change Delivery)
+    -- merge a
+    ∷ says (109 ∷ 101 ∷ 114 ∷ 103 ∷ 101 ∷ 32 ∷ 97 ∷ []) (Change Merge)
+    -- merge
+    ∷ says (109 ∷ 101 ∷ 114 ∷ 103 ∷ 101 ∷ []) Unclear
+    -- merge a b
+    ∷ says (109 ∷ 101 ∷ 114 ∷ 103 ∷ 101 ∷ 32 ∷ 97 ∷ 32 ∷ 98 ∷ []) Unclear
+    -- merges a
+    ∷ says (109 ∷ 101 ∷ 114 ∷ 103 ∷ 101 ∷ 115 ∷ 32 ∷ 97 ∷ []) Unclear
     -- upper 0 0 0
     ∷ says (117 ∷ 112 ∷ 112 ∷ 101 ∷ 114 ∷ 32 ∷ 48 ∷ 32 ∷ 48 ∷ 32 ∷ 48 ∷ []) (Question (Upper 0 0 0))
     -- lower 1 2 3

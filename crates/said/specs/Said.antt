@@ -7,7 +7,7 @@ use Rattle.text.specs.Reading.{pieces, numberIn}
 use Rattle.spelling.specs.Spelling.{same, isPlain, isNumber, isFile}
 use Rattle.calls.specs.declared.Question.{Question}
 use Rattle.calls.specs.declared.Question.the-variants.{Upper, Lower, MeanSteps, Margin, Live, Within}
-use Rattle.said.specs.declared.Change.the-variants.{Clear, Model, Counter, Delivery}
+use Rattle.said.specs.declared.Change.the-variants.{Clear, Model, Counter, Delivery, Merge}
 use Rattle.said.specs.declared.Said.{Said}
 use Rattle.said.specs.declared.Said.the-variants as Says
 use Rattle.said.specs.declared.Said.the-variants.{Nothing, Unclear}
@@ -56,7 +56,7 @@ onSteps ask (n ∷ p ∷ z ∷ q ∷ w ∷ ws) = Unclear
 
 -- ---- the calls by their first words
 
--- "clear", "model", "counter", "delivery", "upper", "lower", "steps", "margin", "live", "within".
+-- "clear", "model", "counter", "delivery", "merge", "upper", "lower", "steps", "margin", "live", "within".
 abbrev pub clearWord : List ℕ
 clearWord = 99 ∷ 108 ∷ 101 ∷ 97 ∷ 114 ∷ []
 
@@ -68,6 +68,9 @@ counterWord = 99 ∷ 111 ∷ 117 ∷ 110 ∷ 116 ∷ 101 ∷ 114 ∷ []
 
 abbrev pub deliveryWord : List ℕ
 deliveryWord = 100 ∷ 101 ∷ 108 ∷ 105 ∷ 118 ∷ 101 ∷ 114 ∷ 121 ∷ []
+
+abbrev pub mergeWord : List ℕ
+mergeWord = 109 ∷ 101 ∷ 114 ∷ 103 ∷ 101 ∷ []
 
 abbrev pub upperWord : List ℕ
 upperWord = 117 ∷ 112 ∷ 112 ∷ 101 ∷ 114 ∷ []
@@ -94,12 +97,13 @@ byWord w ws =
     (cond (same w modelWord) (onFile (Says.Change Model) ws)
     (cond (same w counterWord) (onFile (Says.Change Counter) ws)
     (cond (same w deliveryWord) (onFile (Says.Change Delivery) ws)
+    (cond (same w mergeWord) (onFile (Says.Change Merge) ws)
     (cond (same w upperWord) (onEntry Upper ws)
     (cond (same w lowerWord) (onEntry Lower ws)
     (cond (same w stepsWord) (onRow MeanSteps ws)
     (cond (same w marginWord) (alone (Says.Question Margin) ws)
     (cond (same w liveWord) (onEntry Live ws)
-    (cond (same w withinWord) (onSteps Within ws) Unclear)))))))))
+    (cond (same w withinWord) (onSteps Within ws) Unclear))))))))))
 
 -- What the words of a line say. (A line has at least one word, an empty one at least.)
 abbrev pub byWords : List (List ℕ) → Said

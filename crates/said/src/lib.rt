@@ -11,12 +11,13 @@ ghost use mathlib.Core.Path.{_≡_};
 ghost use Rattle.spelling.specs.Contracts.{argumentsIn};
 ghost use Rattle.said.specs.Said.{saidBy, isSilent, byWord, alone, onFile, onRow, onEntry, onSteps};
 
-// A call that may change the register. The file that a filing names is the second word of its line.
+// A call that may change the register. The file that a filing or a merge names is the second word of its line.
 pub enum Change {
     Clear,
     Model,
     Counter,
     Delivery,
+    Merge,
 }
 
 // What a line says: nothing that wants a reply, no call, or a call.
@@ -131,6 +132,9 @@ fn by_word(word: &[u8], rest: &[u8]) -> Said
     }
     if is_word(word, b"delivery") {
         return on_file(rest, Said::Change(Change::Delivery));
+    }
+    if is_word(word, b"merge") {
+        return on_file(rest, Said::Change(Change::Merge));
     }
     if is_word(word, b"upper") {
         return upper(rest);

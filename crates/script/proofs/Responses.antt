@@ -1,26 +1,30 @@
 -- The code's responses are those of the definitions, and a file that is not read does not matter.
 use Prim.Native.Nat.{ℕ}
-use mathlib.Core.Bool.{true, false, false≢true}
+use mathlib.Core.Bool.{Bool, true, false, cond, _&&_, false≢true}
 use mathlib.Core.List.{List}
 use lib.IntN.{pos}
 use mathlib.Core.Path.{_≡_, refl, sym, ap, _∙_}
 use borrow.Author.Tests.{not-false}
 use Rattle.calls.specs.declared.Question.{Question}
 use Rattle.calls.specs.declared.Question.the-variants as Asks
-use Rattle.calls.specs.Calls.{fileModel, fileCounter, fileDelivery, refusal}
-use Rattle.calls.specs.Answers.{answerReply, questionCall}
+use Rattle.calls.specs.Calls.{fileModel, fileCounter, fileDelivery, merge, refusal}
+use Rattle.calls.specs.Answers.{answerReply, deliveryReply, questionCall}
 use Rattle.questions.specs.declared.View.{View}
 use Rattle.questions.specs.Questions.{answerFrom}
 use Rattle.register.specs.declared.Register.{Register}
 use Rattle.register.specs.Filing as Filing
+use Rattle.register.specs.Merging.{hasDelivery, mergeBy, mergeDelivery}
 use Rattle.register.specs.Questions.{hasModel, shownOf, listsOf, viewOf, upperIn, lowerIn, meanIn, marginIn, liveIn, withinIn}
-use Rattle.filing.specs.Outcomes.{modelOutcome, deliveryOutcome}
+use Rattle.outcome.specs.declared.Outcome.{Outcome}
+use Rattle.verdict.specs.Verdict.{verdict}
+use Rattle.held.specs.Held.{holdsModel, isHeld}
+use Rattle.filing.specs.Outcomes.{modelOutcome, fileOf, deliveryOutcome, mergeReason, mergeAfter, mergeOutcome}
 use Rattle.counter.specs.Filing as Counter
 use Rattle.counter.specs.Filing.{counterOutcome}
 use Rattle.history.specs.Run.{afterCall, replyOf}
 use Rattle.history.proofs.Refusals.{refused-keeps}
 use Rattle.said.specs.declared.Change.{Change}
-use Rattle.said.specs.declared.Change.the-variants.{Clear, Model, Counter, Delivery}
+use Rattle.said.specs.declared.Change.the-variants.{Clear, Model, Counter, Delivery, Merge}
 use Rattle.said.specs.declared.Said.{Said}
 use Rattle.said.specs.declared.Said.the-variants as Says
 use Rattle.replies.specs.Replies.{replyLine}
@@ -37,6 +41,7 @@ module _ (r : Register) where
   made-register Model f = refl
   made-register Counter f = refl
   made-register Delivery f = refl
+  made-register Merge f = refl
 
   made-text : (c : Change) (f : List ℕ) → textOf (changeMade r c f .response) ≡ replyLine (replyOf r (changeCall c f))
   unfolding replyOf
@@ -44,6 +49,7 @@ module _ (r : Register) where
   made-text Model f = refl
   made-text Counter f = refl
   made-text Delivery f = refl
+  made-text Merge f = refl
 
   pub changed-register : (s : Said) (f : List ℕ) → mayChange s ≡ true → changedBy r s f .register ≡ registerBy r (askedBy s f)
   changed-register Says.Nothing f e = absurd (false≢true e)
@@ -106,6 +112,18 @@ module _ (r : Register) where
   unfolding replyOf Filing.fileDelivery deliveryOutcome hasModel
   delivery-unread f held = rw held
 
+  -- And for a merge 40 where no model is held, and else 42 where no delivery is.
+  pub merge-unread : (f : List ℕ) → (hasModel r && hasDelivery r) ≡ false → replyOf r (merge f) ≡ refusal (cond (hasModel r) 42 40)
+  unfolding replyOf mergeDelivery mergeOutcome hasModel hasDelivery
+  merge-unread f = go (holdsModel (r .model .length)) (isHeld (r .delivery)) (verdict (fileOf (r .model)) f) (fileOf (r .model))
+    where
+      go : (t u : Bool) (o : Outcome) (b : List ℕ) → (t && u) ≡ false →
+          let x = mergeBy (mergeAfter (mergeReason t u) o) r b f in
+          deliveryReply (x .outcome) (x .mark) ≡ refusal (cond t 42 40)
+      go true true o b e = absurd (false≢true (sym e))
+      go true false o b e = refl
+      go false u o b e = refl
+
   model-kept : (f : List ℕ) → hasModel r ≡ true → afterCall r (fileModel f) ≡ r
   model-kept f held = refused-keeps r (fileModel f) 41 0 (pos 0) (model-unread f held)
 
@@ -115,17 +133,21 @@ module _ (r : Register) where
   delivery-kept : (f : List ℕ) → hasModel r ≡ false → afterCall r (fileDelivery f) ≡ r
   delivery-kept f held = refused-keeps r (fileDelivery f) 40 0 (pos 0) (delivery-unread f held)
 
+  merge-kept : (f : List ℕ) → (hasModel r && hasDelivery r) ≡ false → afterCall r (merge f) ≡ r
+  merge-kept f held = refused-keeps r (merge f) (cond (hasModel r) 42 40) 0 (pos 0) (merge-unread f held)
+
   -- So what the file holds does not matter where it is not read.
-  pub unread-text : (s : Said) (f g : List ℕ) → readsFile (hasModel r) s ≡ false → replyBy r (askedBy s f) ≡ replyBy r (askedBy s g)
+  pub unread-text : (s : Said) (f g : List ℕ) → readsFile (hasModel r) (hasDelivery r) s ≡ false → replyBy r (askedBy s f) ≡ replyBy r (askedBy s g)
   unread-text Says.Nothing f g e = refl
   unread-text Says.Unclear f g e = refl
   unread-text (Says.Change Clear) f g e = refl
   unread-text (Says.Change Model) f g e = ap replyLine (model-unread f (not-false (hasModel r) e) ∙ sym (model-unread g (not-false (hasModel r) e)))
   unread-text (Says.Change Counter) f g e = ap replyLine (counter-unread f (not-false (hasModel r) e) ∙ sym (counter-unread g (not-false (hasModel r) e)))
   unread-text (Says.Change Delivery) f g e = ap replyLine (delivery-unread f e ∙ sym (delivery-unread g e))
+  unread-text (Says.Change Merge) f g e = ap replyLine (merge-unread f e ∙ sym (merge-unread g e))
   unread-text (Says.Question a) f g e = refl
 
-  pub unread-register : (s : Said) (f g : List ℕ) → readsFile (hasModel r) s ≡ false → registerBy r (askedBy s f) ≡ registerBy r (askedBy s g)
+  pub unread-register : (s : Said) (f g : List ℕ) → readsFile (hasModel r) (hasDelivery r) s ≡ false → registerBy r (askedBy s f) ≡ registerBy r (askedBy s g)
   unfolding afterCall
   unread-register Says.Nothing f g e = refl
   unread-register Says.Unclear f g e = refl
@@ -133,4 +155,5 @@ module _ (r : Register) where
   unread-register (Says.Change Model) f g e = model-kept f (not-false (hasModel r) e) ∙ sym (model-kept g (not-false (hasModel r) e))
   unread-register (Says.Change Counter) f g e = counter-kept f (not-false (hasModel r) e) ∙ sym (counter-kept g (not-false (hasModel r) e))
   unread-register (Says.Change Delivery) f g e = delivery-kept f e ∙ sym (delivery-kept g e)
+  unread-register (Says.Change Merge) f g e = merge-kept f e ∙ sym (merge-kept g e)
   unread-register (Says.Question a) f g e = refl

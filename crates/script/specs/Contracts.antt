@@ -7,9 +7,11 @@ use Rattle.questions.specs.Questions.{answerFrom}
 use Rattle.questions.specs.Contracts.{isShort}
 use Rattle.register.specs.declared.Register.{Register}
 use Rattle.register.specs.Filing as Filing
+use Rattle.register.specs.Merging.{mergeDelivery}
+use Rattle.register.specs.declared.Received as Register
 use Rattle.counter.specs.Filing.{fileCounter}
 use Rattle.said.specs.declared.Change.{Change}
-use Rattle.said.specs.declared.Change.the-variants.{Clear, Model, Counter, Delivery}
+use Rattle.said.specs.declared.Change.the-variants.{Clear, Model, Counter, Delivery, Merge}
 use Rattle.said.specs.declared.Said.{Said}
 use Rattle.said.specs.declared.Said.the-variants as Says
 use Rattle.replies.specs.declared.Response.{Response}
@@ -40,13 +42,17 @@ answeredFrom h b l (Says.Question k) = Answered (answerFrom h b l k)
 abbrev pub responded : Register → Response → Responded
 responded r x = record { register = r; response = x }
 
+-- What a delivery gives, filed or merged.
+abbrev pub receivedAs : Register.Received → Responded
+receivedAs x = responded (x .register) (Received (x .outcome) (x .mark))
+
 -- The register after a change, and the response, where the file that is named has these bytes.
 abbrev pub changeMade : Register → Change → List ℕ → Responded
 changeMade r Clear f = responded Filing.cleared Cleared
 changeMade r Model f = responded (Filing.fileModel r f .register) (Filed (Filing.fileModel r f .outcome))
 changeMade r Counter f = responded (fileCounter r f .register) (Filed (fileCounter r f .outcome))
-changeMade r Delivery f =
-    responded (Filing.fileDelivery r f .register) (Received (Filing.fileDelivery r f .outcome) (Filing.fileDelivery r f .mark))
+changeMade r Delivery f = receivedAs (Filing.fileDelivery r f)
+changeMade r Merge f = receivedAs (mergeDelivery r f)
 
 -- The same for whatever is said: for what changes nothing, the register and silence.
 abbrev pub changedBy : Register → Said → List ℕ → Responded

@@ -10,7 +10,7 @@ use Rattle.certificate.specs.Edges.{oneRule, wDelivery}
 use Rattle.counter.specs.Made.{counterRecord}
 use Rattle.counter.specs.Edges.{queueFile}
 use Rattle.calls.specs.declared.Question.the-variants.{Margin}
-use Rattle.said.specs.declared.Change.the-variants.{Clear, Model, Counter, Delivery}
+use Rattle.said.specs.declared.Change.the-variants.{Clear, Model, Counter, Delivery, Merge}
 use Rattle.said.specs.declared.Said.{Said}
 use Rattle.said.specs.declared.Said.the-variants.{Nothing, Unclear, Change, Question}
 use Rattle.script.specs.Script.{LineRead, readsFile, printedAfter}
@@ -214,32 +214,39 @@ oddScript =
     ∷ row (99 ∷ 108 ∷ 101 ∷ 97 ∷ 114 ∷ 32 ∷ []) [] (117 ∷ 110 ∷ 99 ∷ 108 ∷ 101 ∷ 97 ∷ 114 ∷ 10 ∷ [])
     ∷ []
 
--- Whether the file of a line is read, by whether a model is held: that of a model or a counter file where none is, that of a delivery where one is.
+-- Whether the file of a line is read, by whether a model and a delivery are held: that of a model or a counter file where no model is, that of a delivery where one
+-- is, that of a merge where both are.
 pub record Reading : Type 0 where
-  pub held : Bool
+  pub model : Bool
+  pub delivery : Bool
   pub said : Said
   pub reads : Bool
 
-abbrev pub reading : Bool → Said → Bool → Reading
-reading h s t = record { held = h; said = s; reads = t }
+abbrev pub reading : Bool → Bool → Said → Bool → Reading
+reading m d s t = record { model = m; delivery = d; said = s; reads = t }
 
 abbrev pub readings : List Reading
 readings =
-    reading false (Change Model) true
-    ∷ reading true (Change Model) false
-    ∷ reading false (Change Counter) true
-    ∷ reading true (Change Counter) false
-    ∷ reading false (Change Delivery) false
-    ∷ reading true (Change Delivery) true
-    ∷ reading false (Change Clear) false
-    ∷ reading true (Change Clear) false
-    ∷ reading true (Question Margin) false
-    ∷ reading false Nothing false
-    ∷ reading false Unclear false
+    reading false false (Change Model) true
+    ∷ reading true false (Change Model) false
+    ∷ reading true true (Change Model) false
+    ∷ reading false false (Change Counter) true
+    ∷ reading true false (Change Counter) false
+    ∷ reading false false (Change Delivery) false
+    ∷ reading true false (Change Delivery) true
+    ∷ reading true true (Change Delivery) true
+    ∷ reading false false (Change Merge) false
+    ∷ reading true false (Change Merge) false
+    ∷ reading true true (Change Merge) true
+    ∷ reading false false (Change Clear) false
+    ∷ reading true true (Change Clear) false
+    ∷ reading true true (Question Margin) false
+    ∷ reading false false Nothing false
+    ∷ reading false false Unclear false
     ∷ []
 
 abbrev pub readingOf : Reading → Bool
-readingOf r = readsFile (r .held) (r .said)
+readingOf r = readsFile (r .model) (r .delivery) (r .said)
 
 abbrev pub readsOf : Reading → Bool
 readsOf r = r .reads

@@ -1,14 +1,14 @@
 -- What a script of calls prints: the replies of the plain pair (crate history) to the calls that its lines say, in text (docs/RULES.md, "The desk").
 use Prim.Native.Nat.{ℕ}
-use mathlib.Core.Bool.{Bool, false, not}
+use mathlib.Core.Bool.{Bool, false, not, _&&_}
 use mathlib.Core.List.{List, [], _∷_, _++_, map}
 use mathlib.Core.Path.{_≡_}
 use Rattle.text.specs.Reading.{pieces}
-use Rattle.calls.specs.Calls.{Call, clear, fileModel, fileCounter, fileDelivery}
+use Rattle.calls.specs.Calls.{Call, clear, fileModel, fileCounter, fileDelivery, merge}
 use Rattle.calls.specs.Answers.{questionCall}
 use Rattle.history.specs.Plain.{Event, pairOf, plainReply}
 use Rattle.said.specs.declared.Change.{Change}
-use Rattle.said.specs.declared.Change.the-variants.{Clear, Model, Counter, Delivery}
+use Rattle.said.specs.declared.Change.the-variants.{Clear, Model, Counter, Delivery, Merge}
 use Rattle.said.specs.declared.Said.{Said}
 use Rattle.said.specs.declared.Said.the-variants as Says
 use Rattle.said.specs.Said.{saidBy}
@@ -31,6 +31,7 @@ changeCall Clear f = clear
 changeCall Model f = fileModel f
 changeCall Counter f = fileCounter f
 changeCall Delivery f = fileDelivery f
+changeCall Merge f = merge f
 
 abbrev pub askedBy : Said → List ℕ → Asked
 askedBy Says.Nothing f = nothing
@@ -41,18 +42,19 @@ askedBy (Says.Question a) f = call (questionCall a)
 abbrev pub asks : LineRead → Asked
 asks l = askedBy (saidBy (l .bytes)) (l .file)
 
--- Whether a file is read, by whether a model is held: the register's own reasons, 41 and 40, come before any file is read.
-abbrev pub changeReads : Bool → Change → Bool
-changeReads held Clear = false
-changeReads held Model = not held
-changeReads held Counter = not held
-changeReads held Delivery = held
+-- Whether a file is read, by whether a model and a delivery are held: the register's own reasons, 41, 40 and 42, come before any file is read.
+abbrev pub changeReads : Bool → Bool → Change → Bool
+changeReads model delivery Clear = false
+changeReads model delivery Model = not model
+changeReads model delivery Counter = not model
+changeReads model delivery Delivery = model
+changeReads model delivery Merge = model && delivery
 
-abbrev pub readsFile : Bool → Said → Bool
-readsFile held Says.Nothing = false
-readsFile held Says.Unclear = false
-readsFile held (Says.Change c) = changeReads held c
-readsFile held (Says.Question a) = false
+abbrev pub readsFile : Bool → Bool → Said → Bool
+readsFile model delivery Says.Nothing = false
+readsFile model delivery Says.Unclear = false
+readsFile model delivery (Says.Change c) = changeReads model delivery c
+readsFile model delivery (Says.Question a) = false
 
 -- ---- what is printed, after the history es (latest first)
 

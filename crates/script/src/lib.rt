@@ -6,6 +6,7 @@ use model::sizes::Sizes;
 use questions::LISTS;
 use questions::Shown;
 use register::Filed;
+use register::Received;
 use register::Register;
 use replies::Response;
 use rows::STARTS;
@@ -15,9 +16,9 @@ ghost use mathlib.Core.Path.{_≡_};
 ghost use Rattle.questions.specs.Contracts.{IfNeeded};
 ghost use Rattle.register.specs.Filing.{cleared};
 ghost use Rattle.replies.specs.declared.Response.the-variants.{Silence, Cleared};
-ghost use Rattle.said.specs.declared.Change.the-variants.{Model, Counter, Delivery};
+ghost use Rattle.said.specs.declared.Change.the-variants.{Model, Counter, Delivery, Merge};
 ghost use Rattle.script.specs.Script.{changeReads, readsFile};
-ghost use Rattle.script.specs.Contracts.{mayChange, asksShort, answeredFrom, responded, changeMade, changedBy};
+ghost use Rattle.script.specs.Contracts.{mayChange, asksShort, answeredFrom, responded, receivedAs, changeMade, changedBy};
 
 // The register after a line, and the response.
 pub struct Responded {
@@ -37,26 +38,27 @@ pub fn may_change(said: Said) -> bool
     }
 }
 
-// Whether the file of a change is read, by whether a model is held: the register's own reasons come first.
-fn change_reads(held: bool, change: Change) -> bool
-    ensures { λ r. ⌜ r ≡ changeReads held change ⌝ }
+// Whether the file of a change is read, by whether a model and a delivery are held: the register's own reasons come first.
+fn change_reads(model: bool, delivery: bool, change: Change) -> bool
+    ensures { λ r. ⌜ r ≡ changeReads model delivery change ⌝ }
 {
     match change {
         Change::Clear => false,
-        Change::Model => !held,
-        Change::Counter => !held,
-        Change::Delivery => held,
+        Change::Model => !model,
+        Change::Counter => !model,
+        Change::Delivery => model,
+        Change::Merge => model & delivery,
     }
 }
 
 // Whether a line's file is read.
-pub fn reads_file(held: bool, said: Said) -> bool
-    ensures { λ r. ⌜ r ≡ readsFile held said ⌝ }
+pub fn reads_file(model: bool, delivery: bool, said: Said) -> bool
+    ensures { λ r. ⌜ r ≡ readsFile model delivery said ⌝ }
 {
     match said {
         Said::Nothing => false,
         Said::Unclear => false,
-        Said::Change(change) => change_reads(held, change),
+        Said::Change(change) => change_reads(model, delivery, change),
         Said::Question(_) => false,
     }
 }
@@ -121,18 +123,31 @@ fn file_counter(register: Register, file: &[u8]) -> Responded
     filed(counter::filings::file_counter(register, file))
 }
 
-// Files a delivery.
-fn file_delivery(register: Register, file: &[u8]) -> Responded
-    ensures { λ r. ⌜ r ≡ changeMade register Delivery (now (file .entry)) ⌝ }
+// What a delivery gives, filed or merged.
+fn received(given: Received) -> Responded
+    ensures { λ r. ⌜ r ≡ receivedAs given ⌝ }
 {
-    let received = register.file_delivery(file);
-    let after = received.register;
-    let outcome = received.outcome;
-    let mark = received.mark;
+    let after = given.register;
+    let outcome = given.outcome;
+    let mark = given.mark;
     Responded {
         register: after,
         response: Response::Received { outcome, mark },
     }
+}
+
+// Files a delivery.
+fn file_delivery(register: Register, file: &[u8]) -> Responded
+    ensures { λ r. ⌜ r ≡ changeMade register Delivery (now (file .entry)) ⌝ }
+{
+    received(register.file_delivery(file))
+}
+
+// Merges a delivery with the held one.
+fn merge_delivery(register: Register, file: &[u8]) -> Responded
+    ensures { λ r. ⌜ r ≡ changeMade register Merge (now (file .entry)) ⌝ }
+{
+    received(register.merge_delivery(file))
 }
 
 // Clears.
@@ -154,6 +169,7 @@ fn make(register: Register, change: Change, file: &[u8]) -> Responded
         Change::Model => file_model(register, file),
         Change::Counter => file_counter(register, file),
         Change::Delivery => file_delivery(register, file),
+        Change::Merge => merge_delivery(register, file),
     }
 }
 

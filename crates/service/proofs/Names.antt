@@ -10,11 +10,11 @@ use lib.ListN.{length, drop}
 use borrow.Author.Tests.{eqb-true}
 use Rattle.text.specs.Reading.{inFront, pieces}
 use Rattle.said.specs.declared.Change.{Change}
-use Rattle.said.specs.declared.Change.the-variants.{Clear, Model, Counter, Delivery}
+use Rattle.said.specs.declared.Change.the-variants.{Clear, Model, Counter, Delivery, Merge}
 use Rattle.said.specs.declared.Said.the-variants as Says
-use Rattle.said.specs.Said.{clearWord, modelWord, counterWord, deliveryWord, saidBy}
+use Rattle.said.specs.Said.{clearWord, modelWord, counterWord, deliveryWord, mergeWord, saidBy}
 use Rattle.said.specs.Contracts.{FileLine}
-use Rattle.said.proofs.Meaning.{model-names, counter-names, delivery-names}
+use Rattle.said.proofs.Meaning.{model-names, counter-names, delivery-names, merge-names}
 use Rattle.service.specs.Contracts.{nameFrom}
 
 -- Words, a space before each.
@@ -51,6 +51,7 @@ wordOf Clear = clearWord
 wordOf Model = modelWord
 wordOf Counter = counterWord
 wordOf Delivery = deliveryWord
+wordOf Merge = mergeWord
 
 -- Every change but a clearing names a file, and its name stands where it is read.
 pub name-read : (c : Change) (line : List ℕ) → (c ≡ Clear → ⊥) → saidBy line ≡ Says.Change c → NameAt (nameFrom c) (wordOf c) line
@@ -58,3 +59,4 @@ name-read Clear line files e = absurd (files refl)
 name-read Model line files e = name-after modelWord line (model-names line e)
 name-read Counter line files e = name-after counterWord line (counter-names line e)
 name-read Delivery line files e = name-after deliveryWord line (delivery-names line e)
+name-read Merge line files e = name-after mergeWord line (merge-names line e)

@@ -7,10 +7,11 @@ use lib.Dec.{ltb}
 use lib.ListN.{length, set}
 use Rattle.register.specs.declared.Register.{Register}
 use Rattle.register.specs.Questions.{hasModel}
+use Rattle.register.specs.Merging.{hasDelivery}
 use Rattle.said.specs.declared.Change.{Change}
-use Rattle.said.specs.declared.Change.the-variants.{Clear, Model, Counter, Delivery}
+use Rattle.said.specs.declared.Change.the-variants.{Clear, Model, Counter, Delivery, Merge}
 use Rattle.said.specs.declared.Said.{Said}
-use Rattle.said.specs.Said.{modelWord, counterWord, deliveryWord}
+use Rattle.said.specs.Said.{modelWord, counterWord, deliveryWord, mergeWord}
 use Rattle.script.specs.declared.Responded.{Responded}
 use Rattle.service.specs.declared.Served.{Served}
 use Rattle.script.specs.Script.{readsFile}
@@ -23,11 +24,12 @@ nameFrom Clear = 0
 nameFrom Model = length modelWord + 1
 nameFrom Counter = length counterWord + 1
 nameFrom Delivery = length deliveryWord + 1
+nameFrom Merge = length mergeWord + 1
 
 -- The change was made, with some bytes for the file, and none where it is not read.
 pub record Performed (r : Register) (s : Said) (x : Responded) : Type 0 where
   pub file : List ℕ
-  pub unread : readsFile (hasModel r) s ≡ false → file ≡ []
+  pub unread : readsFile (hasModel r) (hasDelivery r) s ≡ false → file ≡ []
   pub is : x ≡ changedBy r s file
 
 -- How many bytes are kept of a line with one byte more, and where it lies.

@@ -68,12 +68,13 @@ fn name_from(change: Change) -> usize
         Change::Model => 6,
         Change::Counter => 8,
         Change::Delivery => 9,
+        Change::Merge => 6,
     }
 }
 
-// Reads the file that a line names, as much as `file` holds. Nobody may ask for it before the register's own reasons: `held` says whether a model is held.
-fn fetch(held: bool, said: Said, line: &[u8], file: &mut [u8]) -> usize
-    requires { ⌜ readsFile held said ≡ true ⌝ }
+// Reads the file that a line names, as much as `file` holds. Nobody may ask for it before the register's own reasons: whether a model and a delivery are held.
+fn fetch(model: bool, delivery: bool, said: Said, line: &[u8], file: &mut [u8]) -> usize
+    requires { ⌜ readsFile model delivery said ≡ true ⌝ }
     ensures { λ r. ⌜ Counts r (now (file .exit)) ⌝ }
 {
     let Said::Change(change) = said else {
@@ -91,12 +92,13 @@ fn fetch(held: bool, said: Said, line: &[u8], file: &mut [u8]) -> usize
 fn perform(register: Register, said: Said, line: &[u8]) -> Responded
     ensures { λ r. ⌜ Performed register said r ⌝ }
 {
-    let held = register.has_model();
-    if !reads_file(held, said) {
+    let model = register.has_model();
+    let delivery = register.has_delivery();
+    if !reads_file(model, delivery, said) {
         return change(register, said, b"");
     }
     let mut file = [0u8; delivery::format::MOST_BYTES + 1];
-    let n = fetch(held, said, line, &mut file);
+    let n = fetch(model, delivery, said, line, &mut file);
     change(register, said, &file[..n])
 }
 

@@ -1,7 +1,7 @@
 -- `by_word`: the call is that of the first word that the word is, and none where it is none of them.
 use mathlib.Core.Path.{sym, _∙_}
 use borrow.Author.Needs.{needs}
-use Rattle.said.proofs.Calls.{says-clear, says-model, says-counter, says-delivery, says-upper, says-lower, says-steps, says-margin, says-live, says-within, says-none}
+use Rattle.said.proofs.Calls.{says-clear, says-model, says-counter, says-delivery, says-merge, says-upper, says-lower, says-steps, says-margin, says-live, says-within, says-none}
 use Rattle.said.proofs.by_word.Statement.{statement}
 use Rattle.said.proofs.by_word.Tie as tie
 
@@ -59,11 +59,11 @@ slice-aggregate-is-word-5 c = search needs
 is-word-requires-5 : tie.Need-is-word-requires-5
 is-word-requires-5 c κs = search needs
 
-upper-requires : tie.Need-upper-requires
-upper-requires c κs = search needs
+on-file-requires-4 : tie.Need-on-file-requires-4
+on-file-requires-4 c κs = search needs
 
 returns-5 : tie.Need-returns-5
-returns-5 c = c .upper .ensures ∙ sym (says-upper _ _ (sym (c .before .before .is-word5 .ensures) ∙ c .before .if5 .taken))
+returns-5 c = c .on-file4 .ensures ∙ sym (says-merge _ _ (sym (c .before .before .is-word5 .ensures) ∙ c .before .if5 .taken))
 
 slice-aggregate-is-word-6 : tie.Need-slice-aggregate-is-word-6
 slice-aggregate-is-word-6 c = search needs
@@ -71,11 +71,11 @@ slice-aggregate-is-word-6 c = search needs
 is-word-requires-6 : tie.Need-is-word-requires-6
 is-word-requires-6 c κs = search needs
 
-lower-requires : tie.Need-lower-requires
-lower-requires c κs = search needs
+upper-requires : tie.Need-upper-requires
+upper-requires c κs = search needs
 
 returns-6 : tie.Need-returns-6
-returns-6 c = c .lower .ensures ∙ sym (says-lower _ _ (sym (c .before .before .is-word6 .ensures) ∙ c .before .if6 .taken))
+returns-6 c = c .upper .ensures ∙ sym (says-upper _ _ (sym (c .before .before .is-word6 .ensures) ∙ c .before .if6 .taken))
 
 slice-aggregate-is-word-7 : tie.Need-slice-aggregate-is-word-7
 slice-aggregate-is-word-7 c = search needs
@@ -83,11 +83,11 @@ slice-aggregate-is-word-7 c = search needs
 is-word-requires-7 : tie.Need-is-word-requires-7
 is-word-requires-7 c κs = search needs
 
-steps-requires : tie.Need-steps-requires
-steps-requires c κs = search needs
+lower-requires : tie.Need-lower-requires
+lower-requires c κs = search needs
 
 returns-7 : tie.Need-returns-7
-returns-7 c = c .steps .ensures ∙ sym (says-steps _ _ (sym (c .before .before .is-word7 .ensures) ∙ c .before .if7 .taken))
+returns-7 c = c .lower .ensures ∙ sym (says-lower _ _ (sym (c .before .before .is-word7 .ensures) ∙ c .before .if7 .taken))
 
 slice-aggregate-is-word-8 : tie.Need-slice-aggregate-is-word-8
 slice-aggregate-is-word-8 c = search needs
@@ -95,11 +95,11 @@ slice-aggregate-is-word-8 c = search needs
 is-word-requires-8 : tie.Need-is-word-requires-8
 is-word-requires-8 c κs = search needs
 
-alone-requires-2 : tie.Need-alone-requires-2
-alone-requires-2 c κs = search needs
+steps-requires : tie.Need-steps-requires
+steps-requires c κs = search needs
 
 returns-8 : tie.Need-returns-8
-returns-8 c = c .alone2 .ensures ∙ sym (says-margin _ _ (sym (c .before .before .is-word8 .ensures) ∙ c .before .if8 .taken))
+returns-8 c = c .steps .ensures ∙ sym (says-steps _ _ (sym (c .before .before .is-word8 .ensures) ∙ c .before .if8 .taken))
 
 slice-aggregate-is-word-9 : tie.Need-slice-aggregate-is-word-9
 slice-aggregate-is-word-9 c = search needs
@@ -107,11 +107,11 @@ slice-aggregate-is-word-9 c = search needs
 is-word-requires-9 : tie.Need-is-word-requires-9
 is-word-requires-9 c κs = search needs
 
-live-requires : tie.Need-live-requires
-live-requires c κs = search needs
+alone-requires-2 : tie.Need-alone-requires-2
+alone-requires-2 c κs = search needs
 
 returns-9 : tie.Need-returns-9
-returns-9 c = c .live .ensures ∙ sym (says-live _ _ (sym (c .before .before .is-word9 .ensures) ∙ c .before .if9 .taken))
+returns-9 c = c .alone2 .ensures ∙ sym (says-margin _ _ (sym (c .before .before .is-word9 .ensures) ∙ c .before .if9 .taken))
 
 slice-aggregate-is-word-10 : tie.Need-slice-aggregate-is-word-10
 slice-aggregate-is-word-10 c = search needs
@@ -119,15 +119,28 @@ slice-aggregate-is-word-10 c = search needs
 is-word-requires-10 : tie.Need-is-word-requires-10
 is-word-requires-10 c κs = search needs
 
+live-requires : tie.Need-live-requires
+live-requires c κs = search needs
+
+returns-10 : tie.Need-returns-10
+returns-10 c = c .live .ensures ∙ sym (says-live _ _ (sym (c .before .before .is-word10 .ensures) ∙ c .before .if10 .taken))
+
+slice-aggregate-is-word-11 : tie.Need-slice-aggregate-is-word-11
+slice-aggregate-is-word-11 c = search needs
+
+is-word-requires-11 : tie.Need-is-word-requires-11
+is-word-requires-11 c κs = search needs
+
 within-requires : tie.Need-within-requires
 within-requires c κs = search needs
 
-returns-10 : tie.Need-returns-10
-returns-10 c = c .within .ensures ∙ sym (says-within _ _ (sym (c .before .before .is-word10 .ensures) ∙ c .before .if10 .taken))
-
 returns-11 : tie.Need-returns-11
-returns-11 c =
-    let t9 = c .before .before .before in
+returns-11 c = c .within .ensures ∙ sym (says-within _ _ (sym (c .before .before .is-word11 .ensures) ∙ c .before .if11 .taken))
+
+returns-12 : tie.Need-returns-12
+returns-12 c =
+    let t10 = c .before .before .before in
+    let t9 = t10 .before .before .before in
     let t8 = t9 .before .before .before in
     let t7 = t8 .before .before .before in
     let t6 = t7 .before .before .before in
@@ -147,7 +160,8 @@ returns-11 c =
     (sym (t7 .before .is-word7 .ensures) ∙ t7 .if7 .left)
     (sym (t8 .before .is-word8 .ensures) ∙ t8 .if8 .left)
     (sym (t9 .before .is-word9 .ensures) ∙ t9 .if9 .left)
-    (sym (c .before .is-word10 .ensures) ∙ c .if10 .left))
+    (sym (t10 .before .is-word10 .ensures) ∙ t10 .if10 .left)
+    (sym (c .before .is-word11 .ensures) ∙ c .if11 .left))
 
 pub by-word-spec : {M : Type 1} → statement M
 by-word-spec =
@@ -171,26 +185,30 @@ by-word-spec =
     returns-4
     slice-aggregate-is-word-5
     is-word-requires-5
-    upper-requires
+    on-file-requires-4
     returns-5
     slice-aggregate-is-word-6
     is-word-requires-6
-    lower-requires
+    upper-requires
     returns-6
     slice-aggregate-is-word-7
     is-word-requires-7
-    steps-requires
+    lower-requires
     returns-7
     slice-aggregate-is-word-8
     is-word-requires-8
-    alone-requires-2
+    steps-requires
     returns-8
     slice-aggregate-is-word-9
     is-word-requires-9
-    live-requires
+    alone-requires-2
     returns-9
     slice-aggregate-is-word-10
     is-word-requires-10
-    within-requires
+    live-requires
     returns-10
-    returns-11)
+    slice-aggregate-is-word-11
+    is-word-requires-11
+    within-requires
+    returns-11
+    returns-12)

@@ -1,7 +1,6 @@
 -- `file_delivery`: the register, the outcome and the mark that filing the delivery gives.
-use mathlib.Core.Path.{ap}
-use Rattle.script.specs.Contracts.{responded}
-use Rattle.replies.specs.declared.Response.the-variants.{Received}
+use mathlib.Core.Path.{ap, _∙_}
+use Rattle.script.specs.Contracts.{receivedAs}
 use borrow.Author.Needs.{needs}
 use Rattle.script.proofs.file_delivery.Statement.{statement}
 use Rattle.script.proofs.file_delivery.Tie as tie
@@ -9,8 +8,11 @@ use Rattle.script.proofs.file_delivery.Tie as tie
 file-delivery-requires : tie.Need-file-delivery-requires
 file-delivery-requires c κs = search needs
 
+received-requires : tie.Need-received-requires
+received-requires c κs = search needs
+
 returns : tie.Need-returns
-returns c = ap (λ f. responded (f .register) (Received (f .outcome) (f .mark))) (c .before .file-delivery .ensures)
+returns c = c .received .ensures ∙ ap receivedAs (c .before .file-delivery .ensures)
 
 pub file-delivery-spec : {M : Type 1} → statement M
-file-delivery-spec = tie.close (tie.spec file-delivery-requires returns)
+file-delivery-spec = tie.close (tie.spec file-delivery-requires received-requires returns)

@@ -27,6 +27,12 @@ enum-told-4 c = search needs
 file-delivery-requires : tie.Need-file-delivery-requires
 file-delivery-requires c κs = search needs
 
+enum-told-5 : tie.Need-enum-told-5
+enum-told-5 c = search needs
+
+merge-delivery-requires : tie.Need-merge-delivery-requires
+merge-delivery-requires c κs = search needs
+
 returns : tie.Need-returns
 returns c = search needs
 
@@ -38,6 +44,9 @@ returns-3 c = rw (c .before .enum-told3 .given .1) (c .file-counter .ensures)
 
 returns-4 : tie.Need-returns-4
 returns-4 c = rw (c .before .enum-told4 .given .1) (c .file-delivery .ensures)
+
+returns-5 : tie.Need-returns-5
+returns-5 c = rw (c .before .enum-told5 .given .1) (c .merge-delivery .ensures)
 
 pub make-spec : {M : Type 1} → statement M
 make-spec =
@@ -51,7 +60,10 @@ make-spec =
     file-counter-requires
     enum-told-4
     file-delivery-requires
+    enum-told-5
+    merge-delivery-requires
     returns
     returns-2
     returns-3
-    returns-4)
+    returns-4
+    returns-5)

@@ -1,6 +1,6 @@
 -- `perform`: the change with the bytes that were read, or with none where the file is not read.
 use mathlib.Core.Bool.{false≢true}
-use mathlib.Core.Path.{sym, ap, _∙_}
+use mathlib.Core.Path.{sym, ap₂, _∙_}
 use borrow.Author.Tests.{not-false}
 use Rattle.script.specs.Script.{readsFile}
 use borrow.Author.Needs.{needs}
@@ -9,6 +9,9 @@ use Rattle.service.proofs.perform.Tie as tie
 
 has-model-requires : tie.Need-has-model-requires
 has-model-requires c κs = search needs
+
+has-delivery-requires : tie.Need-has-delivery-requires
+has-delivery-requires c κs = search needs
 
 reads-file-requires : tie.Need-reads-file-requires
 reads-file-requires c κs = search needs
@@ -40,11 +43,12 @@ change-requires-2 c κs = search needs
 returns-2 : tie.Need-returns-2
 returns-2 c =
     let test = c .before .before .before .before .before in
-    let held = test .before .before .has-model .ensures in
-    let args = test .before .before .before .before .args in
+    let delivery = test .before .before .has-delivery .ensures in
+    let model = test .before .before .before .has-model .ensures in
+    let args = test .before .before .before .before .before .args in
     record {
       file = _;
-      unread = λ e. absurd (false≢true (sym e ∙ ap (λ h. readsFile h (args .said)) (sym held) ∙ sym (test .before .reads-file .ensures) ∙ not-false _ (test .if1 .left)));
+      unread = λ e. absurd (false≢true (sym e ∙ ap₂ (λ m d. readsFile m d (args .said)) (sym model) (sym delivery) ∙ sym (test .before .reads-file .ensures) ∙ not-false _ (test .if1 .left)));
       is = c .change2 .ensures;
     }
 
@@ -53,6 +57,7 @@ perform-spec =
     tie.close
     (tie.spec
     has-model-requires
+    has-delivery-requires
     reads-file-requires
     slice-aggregate-change
     change-requires
