@@ -26,7 +26,7 @@ class Row(NamedTuple):
 
 
 # Registers that have to break the contracts (document 01, "Conditions of acceptance", 3); the mistakes of method; short runs (request A.1);
-# counter machines (request A.2); marks (request A.3); the order of records (request A.4); live marks, and reasons; desks.
+# counter machines (request A.2); marks (request A.3); the order of records (request A.4); merges (request A.5); live marks, and reasons; desks.
 TABLE = [
     Row("takes no model", "filing/takes_no_model", ("let found = wellformed::check(file); found",)),
     Row("takes no model", "wellformed/takes_no_model", ("    (0 < n) & ((n % RECORD_BYTES == 0) & (n <= 10240))",)),
@@ -154,7 +154,7 @@ TABLE = [
     Row("promises what is shown of counter files that nobody can hold", "history/holds_counter_that_nobody_has",
         ("-- After an accepted counter file the model that it makes is held, and that is a model file.", "→ (HoldsCounter (fileCounter c ∷ cs) c) × ModelFile (counterModel c)",
          "    ((record { file = file; held = rw e }), made-right c file)")),
-    Row("the desk reads a counter file before the register's own reasons", "script/counter_file_read_before_own_reasons", ("Change::Counter => !held & true,",)),
+    Row("the desk reads a counter file before the register's own reasons", "script/counter_file_read_before_own_reasons", ("Change::Counter => !model & true,",)),
 
     Row("marks by the uppers alone", "filing/marks_by_the_uppers_alone", ("same(&lowers, &former_lowers, v)", "same(&means, &former_means, rows)")),
     Row("marks by the uppers alone, by definition", "history/known_by_the_uppers_alone",
@@ -198,6 +198,45 @@ TABLE = [
     Row("names one reason of a record for another", "wellformed/two_reasons_swapped",
         ("refused((Reason::OutOfRange), i)", "refused((Reason::UnusedNotZero), i)")),
 
+    # Merges (request A.5).
+    Row("merges by the larger upper", "merging/larger_upper_kept", ("let list = kept_of(Keep::Smaller, &held, &second, v); list",)),
+    Row("merges by the smaller lower", "merging/smaller_lower_kept", ("let list = kept_of(Keep::Larger, &a, &b, n.entries()); list",)),
+    Row("merges by the larger mean", "merging/larger_mean_kept", ("let list = kept_of(Keep::Smaller, &a, &b, n.rows()); list",)),
+    Row("keeps the larger for the smaller", "merging/smaller_is_larger", ("Keep::Smaller => { if b < a { b } else { a } }",)),
+    Row("has lowers where either delivery has them", "merging/lowers_where_either_has_them",
+        ("!(!has_lowers(held) | !has_lowers(second))",)),
+    Row("has lowers where either delivery has them, by definition", "delivery/lowers_where_either_has_them",
+        ("mergedShape h k = shapeWith (hasLowers k && hasLowers h) (hasMeans h || hasMeans k)",)),
+    Row("has mean steps where both deliveries have them", "merging/means_where_both_have_them",
+        ("!(!has_means(held) & !has_means(second))",)),
+    Row("merges by the larger upper, by definition", "delivery/larger_upper_merged",
+        ("    (λ p z q. smaller (uppersOf s g e) (uppersOf s g d) p z q)",)),
+    Row("shows the margin of the first", "merging/margin_of_the_first", ("        margin: margin,",)),
+    Row("shows the margin of the first, by definition", "merging/margin_of_the_first_by_definition",
+        ("          (margin (rulesOf b) (statesOf b) (symbolsOf b) (entries (statesOf b) (symbolsOf b)"
+         " (keptTo Smaller (entriesIn (statesOf b) (symbolsOf b)) (former .uppers) (second .uppers)))) 0;",)),
+    Row("replaces the held delivery by the second", "merging/held_replaced_by_the_second",
+        ("let list = kept_of(Keep::Smaller, &held, &second, v); list",)),
+    Row("replaces the held delivery by the second, by definition", "history/second_held_after_a_merge",
+        ("mergedWith (some b) (some e) d = cond false none (some (merged b e d))",)),
+    Row("keeps the held delivery and says that it merged", "register/merge_keeps_the_first_numbers", ("numbers: (merged),",)),
+    Row("tests 42 before 40", "filing/no_delivery_before_no_model", ("    if !(model & true) {",)),
+    Row("tests 42 before 40, by definition", "history/no_delivery_before_no_model",
+        ("    ofModel (x .model) (λ b. ofDelivery (x .delivery) (λ e. byVerdict (verdict b d) (cond false new (markOf b (some e) (merged b e d)))))",)),
+    Row("lists no 42 for a merge", "history/no_delivery_not_listed_for_a_merge", ("listed (merge d) = (40) ∷ 42 ∷ 20",)),
+    Row("marks what is merged against itself", "register/merge_marked_against_itself", ("(mark_by(n, delivery, before, shape, merged))",)),
+    Row("marks what is merged against the second delivery", "history/merge_marked_against_the_second",
+        ("byVerdict (verdict b d) (cond (sameDelivery b e (merged b e d)) known new)))",)),
+    Row("promises that a merge makes uppers no smaller", "history/merge_promised_to_blunt",
+        ("replyTo (merge d ∷ cs) (upper p z q) ≡ value w → (w ≤ u)",)),
+    Row("promises the larger of two margins", "ppda/margin_at_least_the_larger",
+        ("  pub margin-merged : (u v : Vector) → min (margin m s g v) (margin m s g u) ≤ margin m s g (smaller u v)",
+         "          → min (margin m s g v) (margin m s g u) ≤ share")),
+    Row("promises a lower strictly under the other upper", "ppda/lower_strictly_under_the_other_upper",
+        ("((p z q : ℕ) → p < s → z < g → q < s → l p z q ≤ v p z q)",)),
+    Row("reads the file of a merge before the register's own reasons", "script/merge_file_read_before_own_reasons",
+        ("Change::Merge => delivery & model,",)),
+
     Row("the desk replies to the call before, by definition", "script/reply_to_the_call_before",
         ("use mathlib.Core.List.{List, [], _∷_, _++_, map, headD}", "{Call, clear, fileModel, fileCounter, fileDelivery, cleared}",
          "textBy es (call c) = replyLine (plainReply (pairOf ([] ++ es)) c)")),
@@ -211,7 +250,7 @@ TABLE = [
     Row("the desk reads n of `within` after the entry", "said/steps_read_after_the_entry",
         ("            steps: (a),", "            p: (b),", "            z: (c),", "            q: (d),")),
     Row("the desk reads a number as its last digit", "spelling/number_is_its_last_digit", ("10 * n + (digit - 48) as usize",)),
-    Row("the desk reads a file before the register's own reasons", "script/file_read_before_own_reasons", ("Change::Model => !held & true,",)),
+    Row("the desk reads a file before the register's own reasons", "script/file_read_before_own_reasons", ("Change::Model => !model & true,",)),
     Row("the desk reads the name of a counter file a byte late, in definition and code", "service/name_read_a_byte_late",
         ("nameFrom Counter = (length counterWord) + 1", "        Change::Counter => (8),")),
     Row("the desk prints the replies in another order, by definition", "script/replies_in_another_order",

@@ -1,5 +1,5 @@
 -- Calls on a register in the order of time, each with the reply that is due, by the numbers of document 01 and the requests: the reasons 40 to 48 and their order, the
--- marks, refusals that change nothing, and clearing. The files are those of the edges of crates certificate and counter.
+-- marks, merges, refusals that change nothing, and clearing. The files are those of the edges of crates certificate and counter.
 use Prim.Native.Nat.{ℕ}
 use mathlib.Core.List.{List, [], _∷_, _++_, map}
 use mathlib.Core.Path.{_≡_}
@@ -10,7 +10,7 @@ use Rattle.counter.specs.Made.{counterRecord}
 use Rattle.counter.specs.Edges.{queueFile}
 use Rattle.certificate.specs.Edges.{oneRule, wDelivery, allToZero, fourRows}
 use Rattle.register.specs.Filing as Filing
-use Rattle.calls.specs.Calls.{Call, clear, fileModel, fileCounter, fileDelivery, upper, lower, meanSteps, margin, live, within, Reply, cleared, accepted, known, new, value, refused, refusal}
+use Rattle.calls.specs.Calls.{Call, clear, fileModel, fileCounter, fileDelivery, merge, upper, lower, meanSteps, margin, live, within, Reply, cleared, accepted, known, new, value, refused, refusal}
 use Rattle.history.specs.Plain.{Event, pairOf, plainReply}
 use Rattle.history.specs.Run.{replies}
 
@@ -346,6 +346,71 @@ counterExchanges =
     ∷ due (live 1 0 0) (value 0)
     ∷ []
 
+-- A delivery for W with all blocks, its dead entries 0 and every other number open.
+abbrev pub blocksFile : ℕ → ℕ → ℕ → ℕ → ℕ → ℕ → ℕ → ℕ → List ℕ
+blocksFile a c u k j l r t =
+    deliveryRecord 85 0 0 0 a ++ (deliveryRecord 85 0 0 1 c ++ (deliveryRecord 85 1 0 0 0 ++ (deliveryRecord 85 1 0 1 u
+    ++ (lowersBlock k j l ++ meansBlock r t))))
+
+-- Two suppliers' deliveries for W, of which each is sharper in some numbers of every block, and the one merged of them, byte by byte.
+abbrev pub firstSupply : List ℕ
+firstSupply = blocksFile 655360 524288 1179648 524288 393216 1048576 512 256
+
+abbrev pub secondSupply : List ℕ
+secondSupply = blocksFile 660000 480000 1200000 530000 380000 1000000 500 300
+
+abbrev pub mergedSupply : List ℕ
+mergedSupply = blocksFile 655360 480000 1179648 530000 393216 1048576 500 256
+
+-- Merging (request A.5): 40 before 42 before the file; a refused second delivery changes nothing; with itself it is known; of each pair the sharper is shown, with its
+-- own margin, which lies between those of the two; once more it is known, and so is the merged file, from either side; lowers are gone where one of the two has
+-- none, and mean steps stay.
+abbrev pub mergeExchanges : List Event
+mergeExchanges =
+    due (merge firstSupply) (refusal 40)
+    ∷ due (fileModel wFile) accepted
+    ∷ due (merge firstSupply) (refusal 42)
+    ∷ due (merge []) (refusal 42)
+    ∷ due (upper 0 0 0) (refusal 42)
+    ∷ due (fileDelivery firstSupply) new
+    ∷ due (merge firstSupply) known
+    ∷ due margin (value 45875)
+    ∷ due (merge []) (refusal 20)
+    ∷ due (merge (wDelivery 466033 512)) (refused 24 1 (negsuc 30064771071))
+    ∷ due (upper 0 0 1) (value 524288)
+    ∷ due (merge secondSupply) new
+    ∷ due (upper 0 0 0) (value 655360)
+    ∷ due (upper 0 0 1) (value 480000)
+    ∷ due (upper 1 0 0) (value 0)
+    ∷ due (upper 1 0 1) (value 1179648)
+    ∷ due (lower 0 0 0) (value 530000)
+    ∷ due (lower 0 0 1) (value 393216)
+    ∷ due (lower 1 0 1) (value 1048576)
+    ∷ due (meanSteps 0 0) (value 500)
+    ∷ due (meanSteps 1 0) (value 256)
+    ∷ due margin (value 17161)
+    ∷ due (merge secondSupply) known
+    ∷ due (merge firstSupply) known
+    ∷ due (fileDelivery mergedSupply) known
+    ∷ due (fileDelivery secondSupply) new
+    ∷ due margin (value 10913)
+    ∷ due (merge firstSupply) new
+    ∷ due (fileDelivery mergedSupply) known
+    ∷ due (merge uppersFile) new
+    ∷ due (upper 0 0 1) (value 480000)
+    ∷ due (lower 0 0 1) (refusal 43)
+    ∷ due margin (refusal 43)
+    ∷ due (meanSteps 0 0) (value 500)
+    ∷ due (merge firstSupply) known
+    ∷ due (lower 0 0 1) (refusal 43)
+    ∷ due (fileDelivery lowersFile) new
+    ∷ due (merge meansFile) new
+    ∷ due (meanSteps 0 0) (value 512)
+    ∷ due margin (refusal 43)
+    ∷ due clear cleared
+    ∷ due (merge firstSupply) (refusal 40)
+    ∷ []
+
 -- All tables.
 abbrev pub exchanges : List (List Event)
 exchanges =
@@ -360,4 +425,5 @@ exchanges =
     ∷ oneStateExchanges
     ∷ shortExchanges
     ∷ counterExchanges
+    ∷ mergeExchanges
     ∷ []

@@ -144,10 +144,10 @@ impl Register {
     {
         let held = self.model;
         let delivery = self.delivery;
-        let former = self.numbers;
-        let found = merge_outcome(held, delivery, file);
-        if is_refused(found) {
-            return delivery_refused(self, found);
+        let before = self.numbers;
+        let outcome = merge_outcome(held, delivery, file);
+        if is_refused(outcome) {
+            return delivery_refused(self, outcome);
         }
         let length = held.length;
         let bytes = held.bytes;
@@ -156,15 +156,15 @@ impl Register {
         let first = shape_held(delivery);
         let second = shape_for(file, n);
         let shape = merged_shape(first, second);
-        let numbers = merged_numbers(model, n, first, former, second, file);
-        let mark = mark_by(n, delivery, former, shape, numbers);
+        let merged = merged_numbers(model, n, first, before, second, file);
+        let mark = mark_by(n, delivery, before, shape, merged);
         Received {
             register: Register {
                 model: held,
                 delivery: HeldDelivery::Of(shape),
-                numbers,
+                numbers: merged,
             },
-            outcome: found,
+            outcome,
             mark,
         }
     }

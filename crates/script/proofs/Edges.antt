@@ -29,6 +29,8 @@ use Rattle.verdict.specs.Marks.{liveMark}
 use Rattle.verdict.specs.Verdict as verdict
 use Rattle.verdict.specs.Verdict.{numberTests, shapedTests, deliveryTests}
 use Rattle.certificate.specs.Margin.{marginOf}
+use Rattle.delivery.specs.Made.{entryRecords, rowRecords, madeDelivery}
+use Rattle.delivery.specs.Merged.{mergedOf, merged}
 use Rattle.model.specs.Made.{madeModel}
 use Rattle.onecounter.specs.Pushing.{rulesFor}
 use Rattle.counter.specs.Records.{movesIn, byteIn, weightIn, statesIn}
@@ -39,11 +41,11 @@ use Rattle.history.specs.Plain.{lastModel, lastDelivery, sameDelivery, plainRep
 use Rattle.spelling.specs.Spelling.{same, every, isPlain, isNumber, isName}
 use Rattle.said.specs.Said.{isSilent, byWord, saidBy}
 use Rattle.script.specs.Script.{printedAfter}
-use Rattle.script.specs.Edges.{Printed, shortScript, wScript, counterScript, unreadScript, oddScript, readings, readingOf, readsOf}
+use Rattle.script.specs.Edges.{Printed, shortScript, wScript, counterScript, mergeScript, unreadScript, oddScript, readings, readingOf, readsOf}
 
-pub scripts-printed : Printed [] × Printed shortScript × Printed wScript × Printed counterScript × ((f : List ℕ) → Printed (unreadScript f)) × Printed oddScript
-unfolding chanceFrom overRunsWithin overRuns lists flatMap after weigh printedAfter saidBy byWord isPlain isSilent isNumber isName every same pieces numberAfter numberIn decimal digitsTo first each wordAt sign sum sumTo leastTo fits overRow f meanSide mark isLive alive share shareAt margin recordsOf field weight greatestTo statesOf symbolsOf ruleOf listTo rulesOf rowOf rowSum wholeRecords rangeAt unusedAt weightAt ascends recordTests rowTests rowsTests modelTests modelVerdict byteOf valueAt meansFrom recordsIn longAs lowersOrMeans shapeOf uppersOf lowersOf meansOf eachEntry eachRow isDue inRange layout.recordTests deadTest upperTest belowTest lowerTest meanTest upperRecords lowerRecords meanRecords deadTests upperTests belowTests lowerTests meanTests layoutTests numberTests shapedTests deliveryTests verdict.verdict marginOf liveMark allTo lastModel lastDelivery sameDelivery plainReply wholeMoves moveInRange moveAscends moveTests stateSum stateTests counterTests counterVerdict movesIn byteIn weightIn statesIn moveOf movesOf rulesFor madeModel counterModel
-scripts-printed = (refl, refl, refl, refl, λ f. refl, refl)
+pub scripts-printed : Printed [] × Printed shortScript × Printed wScript × Printed counterScript × Printed mergeScript × ((f : List ℕ) → Printed (unreadScript f)) × Printed oddScript
+unfolding chanceFrom overRunsWithin overRuns lists flatMap after weigh printedAfter saidBy byWord isPlain isSilent isNumber isName every same pieces numberAfter numberIn decimal digitsTo first each wordAt sign sum sumTo leastTo fits overRow f meanSide mark isLive alive share shareAt margin recordsOf field weight greatestTo statesOf symbolsOf ruleOf listTo rulesOf rowOf rowSum wholeRecords rangeAt unusedAt weightAt ascends recordTests rowTests rowsTests modelTests modelVerdict byteOf valueAt meansFrom recordsIn longAs lowersOrMeans shapeOf uppersOf lowersOf meansOf eachEntry eachRow isDue inRange layout.recordTests deadTest upperTest belowTest lowerTest meanTest upperRecords lowerRecords meanRecords deadTests upperTests belowTests lowerTests meanTests layoutTests numberTests shapedTests deliveryTests verdict.verdict marginOf liveMark allTo lastModel lastDelivery merged mergedOf madeDelivery entryRecords rowRecords sameDelivery plainReply wholeMoves moveInRange moveAscends moveTests stateSum stateTests counterTests counterVerdict movesIn byteIn weightIn statesIn moveOf movesOf rulesFor madeModel counterModel
+scripts-printed = (refl, refl, refl, refl, refl, λ f. refl, refl)
 
 -- Which files are read.
 pub readings-hold : map readingOf readings ≡ map readsOf readings

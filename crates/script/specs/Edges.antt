@@ -165,8 +165,12 @@ abbrev pub unreadScript : List ℕ → List Row
 unreadScript f =
     -- delivery d: refused 40 0 0
     row (100 ∷ 101 ∷ 108 ∷ 105 ∷ 118 ∷ 101 ∷ 114 ∷ 121 ∷ 32 ∷ 100 ∷ 10 ∷ []) f (114 ∷ 101 ∷ 102 ∷ 117 ∷ 115 ∷ 101 ∷ 100 ∷ 32 ∷ 52 ∷ 48 ∷ 32 ∷ 48 ∷ 32 ∷ 48 ∷ 10 ∷ [])
+    -- merge d: refused 40 0 0
+    ∷ row (109 ∷ 101 ∷ 114 ∷ 103 ∷ 101 ∷ 32 ∷ 100 ∷ 10 ∷ []) f (114 ∷ 101 ∷ 102 ∷ 117 ∷ 115 ∷ 101 ∷ 100 ∷ 32 ∷ 52 ∷ 48 ∷ 32 ∷ 48 ∷ 32 ∷ 48 ∷ 10 ∷ [])
     -- model w: accepted
     ∷ row (109 ∷ 111 ∷ 100 ∷ 101 ∷ 108 ∷ 32 ∷ 119 ∷ 10 ∷ []) wFile (97 ∷ 99 ∷ 99 ∷ 101 ∷ 112 ∷ 116 ∷ 101 ∷ 100 ∷ 10 ∷ [])
+    -- merge d: refused 42 0 0
+    ∷ row (109 ∷ 101 ∷ 114 ∷ 103 ∷ 101 ∷ 32 ∷ 100 ∷ 10 ∷ []) f (114 ∷ 101 ∷ 102 ∷ 117 ∷ 115 ∷ 101 ∷ 100 ∷ 32 ∷ 52 ∷ 50 ∷ 32 ∷ 48 ∷ 32 ∷ 48 ∷ 10 ∷ [])
     -- model w: refused 41 0 0
     ∷ row (109 ∷ 111 ∷ 100 ∷ 101 ∷ 108 ∷ 32 ∷ 119 ∷ 10 ∷ []) f (114 ∷ 101 ∷ 102 ∷ 117 ∷ 115 ∷ 101 ∷ 100 ∷ 32 ∷ 52 ∷ 49 ∷ 32 ∷ 48 ∷ 32 ∷ 48 ∷ 10 ∷ [])
     -- delivery d: new
@@ -212,6 +216,34 @@ oddScript =
     ∷ row (99 ∷ 108 ∷ 101 ∷ 97 ∷ 114 ∷ 10 ∷ []) [] (99 ∷ 108 ∷ 101 ∷ 97 ∷ 114 ∷ 101 ∷ 100 ∷ 10 ∷ [])
     -- clear and a space, without a line end: unclear
     ∷ row (99 ∷ 108 ∷ 101 ∷ 97 ∷ 114 ∷ 32 ∷ []) [] (117 ∷ 110 ∷ 99 ∷ 108 ∷ 101 ∷ 97 ∷ 114 ∷ 10 ∷ [])
+    ∷ []
+
+-- Merging: with itself known, refused as the second delivery is, else new, and the sharper numbers are shown; a merge without a file's name is unclear, and a
+-- delivery that is filed after it replaces what was merged.
+abbrev pub mergeScript : List Row
+mergeScript =
+    -- model w: accepted
+    row (109 ∷ 111 ∷ 100 ∷ 101 ∷ 108 ∷ 32 ∷ 119 ∷ 10 ∷ []) wFile (97 ∷ 99 ∷ 99 ∷ 101 ∷ 112 ∷ 116 ∷ 101 ∷ 100 ∷ 10 ∷ [])
+    -- delivery d: new
+    ∷ row (100 ∷ 101 ∷ 108 ∷ 105 ∷ 118 ∷ 101 ∷ 114 ∷ 121 ∷ 32 ∷ 100 ∷ 10 ∷ []) (wDelivery 524288 512) (110 ∷ 101 ∷ 119 ∷ 10 ∷ [])
+    -- merge d: known
+    ∷ row (109 ∷ 101 ∷ 114 ∷ 103 ∷ 101 ∷ 32 ∷ 100 ∷ 10 ∷ []) (wDelivery 524288 512) (107 ∷ 110 ∷ 111 ∷ 119 ∷ 110 ∷ 10 ∷ [])
+    -- merge d: refused 24 1 -30064771072
+    ∷ row (109 ∷ 101 ∷ 114 ∷ 103 ∷ 101 ∷ 32 ∷ 100 ∷ 10 ∷ []) (wDelivery 466033 512) (114 ∷ 101 ∷ 102 ∷ 117 ∷ 115 ∷ 101 ∷ 100 ∷ 32 ∷ 50 ∷ 52 ∷ 32 ∷ 49 ∷ 32 ∷ 45 ∷ 51 ∷ 48 ∷ 48 ∷ 54 ∷ 52 ∷ 55 ∷ 55 ∷ 49 ∷ 48 ∷ 55 ∷ 50 ∷ 10 ∷ [])
+    -- upper 0 0 1: value 524288
+    ∷ row (117 ∷ 112 ∷ 112 ∷ 101 ∷ 114 ∷ 32 ∷ 48 ∷ 32 ∷ 48 ∷ 32 ∷ 49 ∷ 10 ∷ []) [] (118 ∷ 97 ∷ 108 ∷ 117 ∷ 101 ∷ 32 ∷ 53 ∷ 50 ∷ 52 ∷ 50 ∷ 56 ∷ 56 ∷ 10 ∷ [])
+    -- merge e: new
+    ∷ row (109 ∷ 101 ∷ 114 ∷ 103 ∷ 101 ∷ 32 ∷ 101 ∷ 10 ∷ []) (wDelivery 466034 486) (110 ∷ 101 ∷ 119 ∷ 10 ∷ [])
+    -- upper 0 0 1: value 466034
+    ∷ row (117 ∷ 112 ∷ 112 ∷ 101 ∷ 114 ∷ 32 ∷ 48 ∷ 32 ∷ 48 ∷ 32 ∷ 49 ∷ 10 ∷ []) [] (118 ∷ 97 ∷ 108 ∷ 117 ∷ 101 ∷ 32 ∷ 52 ∷ 54 ∷ 54 ∷ 48 ∷ 51 ∷ 52 ∷ 10 ∷ [])
+    -- steps 0 0: value 486
+    ∷ row (115 ∷ 116 ∷ 101 ∷ 112 ∷ 115 ∷ 32 ∷ 48 ∷ 32 ∷ 48 ∷ 10 ∷ []) [] (118 ∷ 97 ∷ 108 ∷ 117 ∷ 101 ∷ 32 ∷ 52 ∷ 56 ∷ 54 ∷ 10 ∷ [])
+    -- merge: unclear
+    ∷ row (109 ∷ 101 ∷ 114 ∷ 103 ∷ 101 ∷ 10 ∷ []) [] (117 ∷ 110 ∷ 99 ∷ 108 ∷ 101 ∷ 97 ∷ 114 ∷ 10 ∷ [])
+    -- delivery d: new
+    ∷ row (100 ∷ 101 ∷ 108 ∷ 105 ∷ 118 ∷ 101 ∷ 114 ∷ 121 ∷ 32 ∷ 100 ∷ 10 ∷ []) (wDelivery 524288 512) (110 ∷ 101 ∷ 119 ∷ 10 ∷ [])
+    -- upper 0 0 1: value 524288
+    ∷ row (117 ∷ 112 ∷ 112 ∷ 101 ∷ 114 ∷ 32 ∷ 48 ∷ 32 ∷ 48 ∷ 32 ∷ 49 ∷ 10 ∷ []) [] (118 ∷ 97 ∷ 108 ∷ 117 ∷ 101 ∷ 32 ∷ 53 ∷ 50 ∷ 52 ∷ 50 ∷ 56 ∷ 56 ∷ 10 ∷ [])
     ∷ []
 
 -- Whether the file of a line is read, by whether a model and a delivery are held: that of a model or a counter file where no model is, that of a delivery where one

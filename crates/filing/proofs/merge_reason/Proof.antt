@@ -1,7 +1,6 @@
 -- `merge_reason`: by whether a model is held, and then whether a delivery is.
-use mathlib.Core.Bool.{false≢true}
+use mathlib.Core.Bool.{true≢false, false≢true}
 use mathlib.Core.Path.{refl}
-use borrow.Author.Tests.{not-true, not-false}
 use borrow.Author.Needs.{needs}
 use Rattle.outcome.proofs.Tests.{by-cases}
 use Rattle.filing.proofs.merge_reason.Statement.{statement}
@@ -23,17 +22,20 @@ refused-requires-2 c κs = search needs
 returns-2 : tie.Need-returns-2
 returns-2 c =
     let args = c .before .before .before .args in
-    let held = not-false (args .model) (c .before .before .if1 .left) in
-    by-cases (args .delivery)
+    by-cases (args .model)
+    (λ none. absurd (true≢false (rw none at (c .before .before .if1 .left))))
+    (λ held. by-cases (args .delivery)
     (λ none. rw (held, none) (c .refused2 .ensures))
-    (λ filed. absurd (false≢true (rw filed at (c .before .if2 .taken))))
+    (λ filed. absurd (false≢true (rw filed at (c .before .if2 .taken)))))
 
 returns-3 : tie.Need-returns-3
 returns-3 c =
     let args = c .before .before .args in
-    let held = not-false (args .model) (c .before .if1 .left) in
-    let filed = not-false (args .delivery) (c .if2 .left) in
-    rw (held, filed) refl
+    by-cases (args .model)
+    (λ none. absurd (true≢false (rw none at (c .before .if1 .left))))
+    (λ held. by-cases (args .delivery)
+    (λ none. absurd (true≢false (rw none at (c .if2 .left))))
+    (λ filed. rw (held, filed) refl))
 
 pub merge-reason-spec : {M : Type 1} → statement M
 merge-reason-spec =

@@ -1,5 +1,6 @@
--- `either_means`: the two tests, of the held shape and of the second.
+-- `either_means`: by what each of the two shapes has.
 use borrow.Author.Needs.{needs}
+use Rattle.outcome.proofs.Tests.{by-cases}
 use Rattle.merging.proofs.either_means.Statement.{statement}
 use Rattle.merging.proofs.either_means.Tie as tie
 
@@ -10,7 +11,13 @@ has-means-requires-2 : tie.Need-has-means-requires-2
 has-means-requires-2 c κs = search needs
 
 returns : tie.Need-returns
-returns c = rw (c .has-means2 .ensures, c .before .has-means .ensures)
+returns c =
+    let first = c .before .has-means in
+    let second = c .has-means2 in
+    rw (← first .ensures, ← second .ensures)
+    (by-cases (first .result)
+    (λ a. by-cases (second .result) (λ b. simp (a, b)) (λ b. simp (a, b)))
+    (λ a. by-cases (second .result) (λ b. simp (a, b)) (λ b. simp (a, b))))
 
 pub either-means-spec : {M : Type 1} → statement M
 either-means-spec = tie.close (tie.spec has-means-requires has-means-requires-2 returns)
