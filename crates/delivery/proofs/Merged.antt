@@ -1,11 +1,10 @@
 -- The merged file has its shape, its numbers are the sharper of each pair, and each of them is one of the two deliveries'.
-use Prim.Native.Nat.{ℕ, _<_, _^_, min, max}
+use Prim.Native.Nat.{ℕ, _<_}
 use native.Mathlib.Omega.{arith}
-use mathlib.Core.Bool.{Bool, true, false, _&&_, _||_, false≢true}
+use mathlib.Core.Bool.{Bool, true, false, _||_, false≢true}
 use mathlib.Core.List.{List}
 use mathlib.Core.Path.{_≡_, refl}
-use Rattle.walks.specs.Order.{AtRows, AtEntries}
-use Rattle.walks.proofs.Numbers.{min-either, max-either}
+use Rattle.walks.proofs.Numbers.{min-either}
 use Rattle.ppda.specs.Equations.{RowVector, Same, SameRows}
 use Rattle.ppda.specs.Merging.{smaller, larger}
 use Rattle.model.specs.Records.{statesOf, symbolsOf}
@@ -15,8 +14,6 @@ use Rattle.delivery.specs.Shapes.{hasLowers, hasMeans, shapeOf}
 use Rattle.delivery.specs.Numbers.{uppersOf, lowersOf, meansOf}
 use Rattle.delivery.specs.Made.{NumbersFit}
 use Rattle.delivery.specs.Merged.{shapeWith, mergedShape, mergedMeans, mergedOf, merged}
-use Rattle.delivery.specs.Records.{mostOf}
-use Rattle.delivery.specs.declared.shape.Block.the-variants.{Uppers, Lowers, Means}
 use Rattle.delivery.proofs.Made.{shape-of-made, uppers-of-made, lowers-of-made, means-of-made}
 
 -- ---- the shape

@@ -11,7 +11,7 @@ use Rattle.verdict.specs.Verdict.{verdict}
 use Rattle.verdict.proofs.Accepted.{delivery-accepted}
 use Rattle.calls.specs.Calls.{Call, fileDelivery, known, new}
 use Rattle.history.specs.Plain.{lastModel, lastDelivery, ofModel, byVerdict, sameDelivery, markOf, plainReply}
-use Rattle.history.specs.Run.{history, replyTo}
+use Rattle.history.specs.Run.{history}
 use Rattle.history.specs.Mission.{KnownHeld, HeldKnown}
 use Rattle.history.proofs.Same.{itself-same, same-bytes}
 use Rattle.history.proofs.Pairs.{Right}

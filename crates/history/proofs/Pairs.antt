@@ -34,8 +34,7 @@ use Rattle.filing.specs.Outcomes.{modelOutcome, fileOf, deliveryOutcome, mergeO
 use Rattle.filing.specs.Known.{markBy}
 use Rattle.register.specs.Filing.{withModel, modelBy, deliveryBy, received, shapeFor}
 use Rattle.register.specs.Merging.{joined, mergeBy, mergeDelivery}
-use Rattle.delivery.specs.Merged.{mergedShape, merged}
-use Rattle.merging.specs.Numbers.{numbersMerged}
+use Rattle.delivery.specs.Merged.{merged}
 use Rattle.merging.proofs.Accepted.{merged-file, merged-accepted}
 use Rattle.merging.proofs.Held.{merged-numbers}
 use Rattle.calls.specs.Answers.{answered}

@@ -4,16 +4,14 @@ use Prim.Native.Nat.{ℕ, _≤_}
 use native.Mathlib.Nat.{le-refl}
 use mathlib.Core.Bool.{Bool, true, false, cond}
 use mathlib.Core.List.{List, _∷_}
-use mathlib.Core.Option.{Option, some}
-use mathlib.Core.Path.{_≡_, refl, sym, ap, subst, _∙_}
-use Rattle.outcome.specs.declared.Outcome.the-variants.{Accepted}
+use mathlib.Core.Option.{some}
+use mathlib.Core.Path.{_≡_, refl, sym, subst, _∙_}
 use Rattle.model.specs.Records.{statesOf, symbolsOf}
 use Rattle.delivery.specs.declared.shape.Shape.{Shape}
 use Rattle.delivery.specs.declared.shape.Shaped.the-variants.{Of}
 use Rattle.delivery.specs.Shapes.{hasLowers, hasMeans, shapeOf}
 use Rattle.delivery.specs.Numbers.{uppersOf, lowersOf, meansOf}
-use Rattle.delivery.specs.Merged.{mergedShape, merged}
-use Rattle.verdict.specs.Verdict.{verdict}
+use Rattle.delivery.specs.Merged.{merged}
 use Rattle.verdict.specs.Accepted.{RightFiles}
 use Rattle.verdict.proofs.Accepted.{delivery-accepted}
 use Rattle.merging.specs.Sharper.{Sharper}
@@ -22,7 +20,7 @@ use Rattle.merging.proofs.Sharper.{sharper-than-first}
 use Rattle.calls.specs.Calls.{Call, merge, upper, lower, meanSteps, value, taken}
 use Rattle.history.specs.Plain.{lastModel, lastDelivery, mergedWith, atEntry, atRow, plainReply}
 use Rattle.history.specs.Run.{history, replyTo}
-use Rattle.history.specs.Mission.{Holds, HoldsDelivery, MergeSharpens}
+use Rattle.history.specs.Mission.{Holds, MergeSharpens}
 use Rattle.history.proofs.Pairs.{lowerReply, meanReply}
 use Rattle.history.proofs.Plain.{as-plain-pair}
 use Rattle.history.proofs.Merges.{second-accepted}

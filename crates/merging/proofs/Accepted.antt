@@ -1,18 +1,15 @@
 -- Where two deliveries pass, the merged one passes, whatever their shapes (request A.5): its layout and its ranges are those of what is made, and its
 -- inequalities are those of the merged certificate (crate ppda, `Merging`).
-use Prim.Native.Nat.{ℕ, _*_, _≤_, _<_, min}
-use native.Mathlib.Nat.{le-refl}
+use Prim.Native.Nat.{ℕ, _≤_}
 use native.Mathlib.Omega.{arith}
 use mathlib.Core.Bool.{Bool, true, false, _&&_, _||_, false≢true, and-eq-true-iff}
 use mathlib.Core.List.{List}
-use mathlib.Core.Path.{_≡_, refl, sym, ap, subst, _∙_}
+use mathlib.Core.Path.{_≡_, refl, sym, _∙_}
 use Rattle.outcome.specs.declared.Outcome.the-variants.{Accepted}
-use Rattle.walks.specs.Order.{AtRows, AtEntries}
-use Rattle.walks.proofs.Numbers.{min-either, max-either}
+use Rattle.walks.proofs.Numbers.{max-either}
 use Rattle.ppda.specs.Units.{chanceUnit, stepUnit}
 use Rattle.ppda.specs.Rules.{IsModel}
-use Rattle.ppda.specs.Equations.{Vector, RowVector, Same, SameRows, f}
-use Rattle.ppda.specs.Live.{Live}
+use Rattle.ppda.specs.Equations.{Vector, RowVector, Same, SameRows}
 use Rattle.ppda.specs.Bounds as Bounds
 use Rattle.ppda.specs.Merging.{smaller, larger}
 use Rattle.ppda.proofs.Vectors.{f-same, mean-side-same}
@@ -24,9 +21,8 @@ use Rattle.wellformed.proofs.Accepted.{model-accepted, sized-of}
 use Rattle.delivery.specs.declared.shape.Block.{Block}
 use Rattle.delivery.specs.declared.shape.Block.the-variants.{Uppers, Lowers, Means}
 use Rattle.delivery.specs.declared.shape.Shape.{Shape}
-use Rattle.delivery.specs.declared.shape.Shaped.the-variants.{Of}
 use Rattle.delivery.specs.Records.{leastOf, mostOf, isDue, inRange}
-use Rattle.delivery.specs.Shapes.{hasLowers, hasMeans, shapeOf}
+use Rattle.delivery.specs.Shapes.{hasLowers, hasMeans}
 use Rattle.delivery.specs.Numbers.{uppersOf, lowersOf, meansOf}
 use Rattle.delivery.specs.Made.{NumbersFit}
 use Rattle.delivery.specs.Merged.{mergedShape, mergedMeans, mergedOf, merged}

@@ -1,22 +1,20 @@
 -- The merged lists and the margin, as the code finds them.
 use Prim.Native.Nat.{ℕ, _≤_, _<_, min}
-use native.Mathlib.Nat.{le-trans}
 use native.Mathlib.Omega.{arith}
 use mathlib.Core.Bool.{Bool, true, false, cond, _&&_}
 use mathlib.Core.List.{List}
 use mathlib.Core.Logic.{_⊎_, inl, inr}
-use mathlib.Core.Path.{_≡_, refl, sym, ap, _∙_}
-use lib.ListN.{getD, replicate}
+use mathlib.Core.Path.{_≡_, _∙_}
+use lib.ListN.{getD}
 use Rattle.outcome.specs.declared.Outcome.the-variants.{Accepted}
 use Rattle.walks.specs.Order.{rowsIn, entriesIn, AtEntries}
 use Rattle.walks.proofs.Numbers.{less-or-not}
 use Rattle.ppda.specs.Units.{mostChance}
-use Rattle.ppda.specs.Equations.{Vector, entries}
+use Rattle.ppda.specs.Equations.{entries}
 use Rattle.ppda.proofs.Vectors.{margin-same}
-use Rattle.model.specs.Format.{mostEntries}
 use Rattle.model.specs.Records.{statesOf, symbolsOf}
 use Rattle.model.specs.Contracts.{Fits, Sized}
-use Rattle.model.proofs.Accepted.{sized-model, sized-fits}
+use Rattle.model.proofs.Accepted.{sized-model}
 use Rattle.delivery.specs.declared.shape.Shape.{Shape}
 use Rattle.delivery.specs.Shapes.{hasLowers, hasMeans}
 use Rattle.delivery.specs.Numbers.{uppersOf, lowersOf, meansOf}
@@ -28,9 +26,9 @@ use Rattle.held.specs.declared.Numbers.{Numbers}
 use Rattle.held.specs.Held.{listed, listedRows, ifStanding, numbersHeld}
 use Rattle.held.specs.Contracts.{Values}
 use Rattle.held.proofs.Listed.{padded-at, padded-past, listed-most}
-use Rattle.held.proofs.Blocks.{uppers-listed, where-it-stands, where-it-does-not}
+use Rattle.held.proofs.Blocks.{uppers-listed, where-it-stands}
 use Rattle.merging.specs.declared.Keep.the-variants.{Smaller, Larger}
-use Rattle.merging.specs.Numbers.{keptTo, meansTo, marginIn, numbersMerged}
+use Rattle.merging.specs.Numbers.{keptTo, marginIn, numbersMerged}
 use Rattle.merging.specs.Contracts.{uppersMerged, lowersMerged, meansMerged, ChancesListed, Holds}
 use Rattle.merging.proofs.Lists.{block-uppers}
 

@@ -1,35 +1,29 @@
 -- The numbers that a register holds after a merge are those of the merged file, which has been accepted then: of listed numbers the sharper of each pair are
 -- the listed numbers of the sharper vectors.
-use Prim.Native.Nat.{ℕ, _*_, _≤_, _<_, min, max}
+use Prim.Native.Nat.{ℕ, _≤_, min, max}
 use native.Mathlib.Omega.{arith}
-use mathlib.Core.Bool.{Bool, true, false, cond, _&&_, _||_}
+use mathlib.Core.Bool.{Bool, true, false, _&&_, _||_}
 use mathlib.Core.List.{List}
-use mathlib.Core.Path.{_≡_, refl, sym, ap, ap₂, _∙_}
-use lib.ListN.{getD}
-use Rattle.outcome.specs.declared.Outcome.the-variants.{Accepted}
-use Rattle.walks.specs.Order.{rowsIn, entriesIn, byRow, byEntry}
+use mathlib.Core.Path.{_≡_, refl, sym, ap₂, _∙_}
+use Rattle.walks.specs.Order.{rowsIn, entriesIn}
 use Rattle.ppda.specs.Equations.{Vector, RowVector, Same, SameRows, entries}
-use Rattle.ppda.specs.Margin.{margin}
 use Rattle.ppda.specs.Merging.{smaller, larger, smallerRows}
 use Rattle.ppda.proofs.Vectors.{margin-same}
 use Rattle.model.specs.Format.{mostEntries}
 use Rattle.model.specs.Records.{statesOf, symbolsOf}
-use Rattle.model.specs.Rules.{rulesOf}
 use Rattle.model.specs.Contracts.{Fits}
 use Rattle.model.proofs.Accepted.{is-model, sized-fits}
 use Rattle.wellformed.proofs.Accepted.{model-accepted, sized-of}
-use Rattle.delivery.specs.declared.shape.Shape.{Shape}
 use Rattle.delivery.specs.Shapes.{hasLowers, hasMeans}
 use Rattle.delivery.specs.Numbers.{uppersOf, lowersOf, meansOf}
 use Rattle.delivery.specs.Merged.{mergedShape, mergedMeans, mergedOf, merged}
 use Rattle.delivery.proofs.Merged.{lowers-with, means-with, merged-is, merged-uppers, merged-lowers, merged-means}
 use Rattle.verdict.specs.Accepted.{RightFiles}
 use Rattle.certificate.specs.Margin.{marginOf}
-use Rattle.held.specs.declared.Numbers.{Numbers}
 use Rattle.held.specs.Held.{listed, listedRows, ifStanding, numbersHeld}
 use Rattle.held.proofs.Listed.{padded-at, padded-cong, listed-at, listed-cong, rows-cong}
 use Rattle.merging.specs.declared.Keep.the-variants.{Smaller, Larger}
-use Rattle.merging.specs.Numbers.{keptTo, meansTo, marginIn, numbersMerged}
+use Rattle.merging.specs.Numbers.{keptTo, meansTo, numbersMerged}
 use Rattle.merging.proofs.Accepted.{files-fit}
 
 -- ---- listed numbers

@@ -1,7 +1,7 @@
 -- What is merged of two certificates of one model is a certificate again (request A.5): f and the mean steps' right side grow with their numbers, so that
 -- smaller uppers and mean steps, and larger lowers, keep their inequalities; no lower of the one is above the upper of the other (`Agree`); and the margin
 -- is no smaller than the smaller of the two, since a share falls where f grows.
-use Prim.Native.Nat.{ℕ, _+_, _-_, _*_, _≤_, _<_, min, max}
+use Prim.Native.Nat.{ℕ, _*_, _≤_, _<_, min}
 use native.Mathlib.Nat.{le-trans, le-refl, le-min, max-le, add-le-add, mul-le-mul, mul-le-mul-left, mul-le-mul-right}
 use native.Mathlib.Omega.{arith}
 use mathlib.Core.Bool.{true}
@@ -14,7 +14,7 @@ use Rattle.ppda.specs.Rules.{Rule, Push, nothing, one, two, pushed, Belo
 use Rattle.ppda.specs.Equations.{Vector, RowVector, through, f, stepsThrough, meanSide}
 use Rattle.ppda.specs.Live.{isLive, alive}
 use Rattle.ppda.specs.Margin.{share, shareAt, margin}
-use Rattle.ppda.specs.Bounds.{Uppers, Lowers, LowerAt, Means, Certificate}
+use Rattle.ppda.specs.Bounds.{Uppers, Lowers, Means, Certificate}
 use Rattle.ppda.specs.Merging.{smaller, larger, smallerRows}
 use Rattle.walks.proofs.Sums.{sumTo-mono}
 use Rattle.walks.proofs.Numbers.{less-or-not, min-either, max-either, div-grows}

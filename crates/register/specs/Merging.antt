@@ -1,18 +1,14 @@
 -- Merging the held delivery with a second one, on any value of a register (request A.5).
 use Prim.Native.Nat.{ℕ}
-use mathlib.Core.Bool.{Bool, true}
+use mathlib.Core.Bool.{Bool}
 use mathlib.Core.List.{List}
-use mathlib.Core.Logic.{_↔_}
-use mathlib.Core.Path.{_≡_}
 use Rattle.outcome.specs.declared.Outcome.{Outcome}
 use Rattle.outcome.specs.declared.Outcome.the-variants.{Accepted, Refused}
-use Rattle.outcome.specs.Tests.{isRefused}
 use Rattle.delivery.specs.declared.shape.Shape.{Shape}
 use Rattle.delivery.specs.Merged.{mergedShape}
 use Rattle.held.specs.Held.{isHeld, shapeHeld, numbersHeld}
 use Rattle.merging.specs.Numbers.{numbersMerged}
 use Rattle.filing.specs.Outcomes.{fileOf, mergeOutcome}
-use Rattle.calls.specs.declared.Mark.the-variants.{Absent}
 use Rattle.register.specs.declared.Register.{Register}
 use Rattle.register.specs.declared.Received.{Received}
 use Rattle.register.specs.Filing.{turnedAway, shapeFor, holdingNumbers}

@@ -1,6 +1,6 @@
 -- The smaller and the larger of two numbers, and quotients.
-use Prim.Native.Nat.{ℕ, zero, suc, _*_, _/_, _≤_, _<_, min, max}
-use native.Mathlib.Nat.{le-refl, le-trans, le-of-eq, div-zero, div-mul-le-self, le-div-iff-mul-le, zero-lt-suc}
+use Prim.Native.Nat.{ℕ, zero, suc, _/_, _≤_, _<_, min, max}
+use native.Mathlib.Nat.{le-trans, le-of-eq, div-zero, div-mul-le-self, le-div-iff-mul-le, zero-lt-suc}
 use native.Mathlib.Omega.{arith}
 use mathlib.Core.Bool.{Bool, true, false}
 use mathlib.Core.Logic.{_⊎_, inl, inr}

@@ -1,5 +1,4 @@
 -- `merged_margin`: where lowers stand the margin of the block is that of the listed uppers, and else 0 is shown.
-use mathlib.Core.Path.{sym, _∙_}
 use borrow.Author.Tests.{not-true, not-false}
 use borrow.Author.Needs.{needs}
 use Rattle.model.proofs.Accepted.{sized-fits}
