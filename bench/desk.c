@@ -13,9 +13,9 @@
 #include <time.h>
 #include <unistd.h>
 
-enum { LINES = 100000, ORDINARY_LINES = 10000, DEAREST_LINES = 500, ROUNDS = 201, SHORT_ROUNDS = 21, STATES = 8, SYMBOLS = 16 };
+enum { LINES = 100000, ORDINARY_LINES = 10000, DEAREST_LINES = 500, DELIVERY_LINES = 200, ROUNDS = 201, SHORT_ROUNDS = 21, STATES = 8, SYMBOLS = 16 };
 enum { PLAIN, DESK, SIDES };
-enum { FILINGS, QUESTIONS, UNCLEAR, COMMENTS, ORDINARY, DEAREST_FILED, DEAREST, SCRIPTS };
+enum { FILINGS, QUESTIONS, UNCLEAR, COMMENTS, ORDINARY, DEAREST_FILED, DEAREST, DELIVERIES, MERGES, SCRIPTS };
 
 /* A script: what it files, the script of the filings alone, how many lines follow, whether each gets a value, and how often it is run. */
 struct script {
@@ -35,6 +35,8 @@ static const struct script ALL[SCRIPTS] = {
     [ORDINARY] = {"ordinary", "within 3, any entry", BOTH, FILINGS, ORDINARY_LINES, true, SHORT_ROUNDS},
     [DEAREST_FILED] = {"dearest-filed", "start, the dearest model", "model dearest.tab\n", DEAREST_FILED, 0, false, SHORT_ROUNDS},
     [DEAREST] = {"dearest", "within 3, dearest entry", "model dearest.tab\n", DEAREST_FILED, DEAREST_LINES, true, SHORT_ROUNDS},
+    [DELIVERIES] = {"deliveries", "a delivery filed again", BOTH, FILINGS, DELIVERY_LINES, false, SHORT_ROUNDS},
+    [MERGES] = {"merges", "a delivery merged", BOTH, FILINGS, DELIVERY_LINES, false, SHORT_ROUNDS},
 };
 extern char **environ;
 
@@ -70,7 +72,7 @@ static void draw_question(char *line, size_t room)
 }
 
 /* The script of each kind: the filings, and then the same questions; as they are, as lines that are no call, as comments. Then questions on short runs: of any
-   entry, and of the dearest row. */
+   entry, and of the dearest row. And deliveries, filed again and merged: the same one, so that both read the same files. */
 static void write_scripts(void)
 {
     FILE *out[SCRIPTS];
@@ -93,6 +95,10 @@ static void write_scripts(void)
     }
     for (int i = 0; i < DEAREST_LINES; i++)
         fputs("within 3 0 0 0\n", out[DEAREST]);
+    for (int i = 0; i < DELIVERY_LINES; i++) {
+        fputs("delivery bounds.cer\n", out[DELIVERIES]);
+        fputs("merge bounds.cer\n", out[MERGES]);
+    }
     for (int k = 0; k < SCRIPTS; k++)
         if (fclose(out[k]) != 0)
             die("a script is not written");
@@ -204,6 +210,10 @@ static void show(double least[SCRIPTS][SIDES])
     show_row(least, ORDINARY);
     show_row(least, DEAREST);
     show_filings(least, DEAREST_FILED);
+    printf("Deliveries: %d lines on the same files, each with its file read; the least of %d runs.\n", DELIVERY_LINES, SHORT_ROUNDS);
+    show_head();
+    show_row(least, DELIVERIES);
+    show_row(least, MERGES);
 }
 
 int main(int count, char **arguments)

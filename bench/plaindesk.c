@@ -16,8 +16,9 @@ enum { PIECE = 65536, MOST_LINE = 300, MOST_PATH = 255, MOST_DIGITS = 9, MOST_WO
 enum { MODEL_BYTES = 10240, DELIVERY_BYTES = 17408, COUNTER_BYTES = 1536, MOVE_BYTES = 8 };
 enum { NO_MODEL = 40, MODEL_HELD, NO_DELIVERY, NO_BLOCK, NOT_OF_MODEL, TOO_MANY_STEPS, COUNTER_LENGTH, MOVE_WRONG, STATE_SUM_WRONG };
 
-/* The shortest line with a reply is 1 byte and its newline, answered by the 8 bytes of `unclear`; the longest reply has 37 bytes, to a line of 11. */
-enum { LONGEST_REPLY = 64, REPLY_ROOM = 4 * PIECE + LONGEST_REPLY };
+/* The shortest line with a reply is 1 byte and its newline, answered by the 8 bytes of `unclear`; the longest reply has 37 bytes, to a line of 8: `merge`, a
+   path of 1 byte and the newline. */
+enum { LONGEST_REPLY = 64, REPLY_ROOM = 5 * PIECE + LONGEST_REPLY };
 
 /* The register: what it holds of an accepted model, with where its rows start, and of a delivery accepted for it. */
 static struct {
@@ -239,9 +240,8 @@ static size_t means_from(const struct model *m, struct shape shape)
 }
 
 /* Whether a delivery of the same shape and the same records is held. Kinds, states and symbols are those due in any that is accepted, so that the numbers tell. */
-static bool is_known(const struct model *m, const uint8_t *delivery, size_t len)
+static bool is_known(const struct model *m, const uint8_t *delivery, struct shape shape)
 {
-    struct shape shape = find_shape(m, delivery, len);
     if (!held.has_delivery || held.lowers != shape.lowers || held.means != shape.means || !holds_values(held.upper, delivery, m->entries))
         return false;
     if (shape.lowers && !holds_values(held.lower, delivery + FIGURE_BYTES * m->entries, m->entries))
@@ -249,9 +249,8 @@ static bool is_known(const struct model *m, const uint8_t *delivery, size_t len)
     return !shape.means || holds_values(held.mean, delivery + FIGURE_BYTES * means_from(m, shape), m->rows);
 }
 
-static void hold_delivery(const struct model *m, const uint8_t *delivery, size_t len)
+static void hold_delivery(const struct model *m, const uint8_t *delivery, struct shape shape)
 {
-    struct shape shape = find_shape(m, delivery, len);
     hold_values(held.upper, delivery, m->entries);
     if (shape.lowers) {
         hold_values(held.lower, delivery + FIGURE_BYTES * m->entries, m->entries);
@@ -262,6 +261,38 @@ static void hold_delivery(const struct model *m, const uint8_t *delivery, size_t
     held.lowers = shape.lowers;
     held.means = shape.means;
     held.has_delivery = true;
+}
+
+/* What is merged of the held delivery and a second one. */
+
+static uint32_t lesser(uint32_t a, uint32_t b)
+{
+    return a < b ? a : b;
+}
+
+static void put_value(uint8_t *block, size_t e, uint32_t number)
+{
+    for (size_t i = 0; i < 4; i++)
+        block[FIGURE_BYTES * e + 4 + i] = (uint8_t)(number >> 8 * i);
+}
+
+/* Writes the numbers alone of the merged delivery, each into its record, and returns its shape: lowers where both have them, mean steps where either has. */
+static struct shape merge_numbers(const struct model *m, uint8_t *merged, const uint8_t *second, struct shape shape)
+{
+    struct shape both = {true, held.lowers && shape.lowers, held.means || shape.means};
+    size_t lowers = FIGURE_BYTES * m->entries;
+    const uint8_t *means = second + FIGURE_BYTES * means_from(m, shape);
+    uint8_t *merged_means = merged + FIGURE_BYTES * means_from(m, both);
+    for (size_t e = 0; e < m->entries; e++)
+        put_value(merged, e, lesser(held.upper[e], value(second, e)));
+    for (size_t e = 0; both.lowers && e < m->entries; e++)
+        put_value(merged + lowers, e, (uint32_t)greater(held.lower[e], value(second + lowers, e)));
+    for (size_t row = 0; both.means && row < m->rows; row++)
+        if (held.means && shape.means)
+            put_value(merged_means, row, lesser(held.mean[row], value(means, row)));
+        else
+            put_value(merged_means, row, held.means ? held.mean[row] : value(means, row));
+    return both;
 }
 
 /* Calls. */
@@ -307,6 +338,30 @@ static void file_counter(const struct word *path)
     PUT("accepted\n");
 }
 
+/* Holds an accepted delivery, and replies whether it was held before. */
+static void take_delivery(const struct model *m, const uint8_t *delivery, struct shape shape)
+{
+    bool known = is_known(m, delivery, shape);
+    hold_delivery(m, delivery, shape);
+    if (known)
+        PUT("known\n");
+    else
+        PUT("new\n");
+}
+
+/* Reads a delivery and checks it with the held model, and returns its shape; of one that is refused, which it replies, none. */
+static struct shape read_delivery(struct model *m, const struct word *path, uint8_t *delivery)
+{
+    size_t len = read_file(path, delivery, DELIVERY_BYTES + 1);
+    struct outcome found = check_delivery(held.model, held.model_len, delivery, len);
+    if (found.reason != ACCEPTED) {
+        reply_refused(found.reason, found.place, found.shortfall);
+        return (struct shape){false, false, false};
+    }
+    find_model(m);
+    return find_shape(m, delivery, len);
+}
+
 static void file_delivery(const struct word *path)
 {
     static uint8_t delivery[DELIVERY_BYTES + 1];
@@ -315,19 +370,22 @@ static void file_delivery(const struct word *path)
         reply_refused(NO_MODEL, 0, 0);
         return;
     }
-    size_t len = read_file(path, delivery, DELIVERY_BYTES + 1);
-    struct outcome found = check_delivery(held.model, held.model_len, delivery, len);
-    if (found.reason != ACCEPTED) {
-        reply_refused(found.reason, found.place, found.shortfall);
+    struct shape shape = read_delivery(&m, path, delivery);
+    if (shape.known)
+        take_delivery(&m, delivery, shape);
+}
+
+static void merge_delivery(const struct word *path)
+{
+    static uint8_t second[DELIVERY_BYTES + 1], merged[DELIVERY_BYTES];
+    struct model m;
+    if (!held.has_model || !held.has_delivery) {
+        reply_refused(held.has_model ? NO_DELIVERY : NO_MODEL, 0, 0);
         return;
     }
-    find_model(&m);
-    bool known = is_known(&m, delivery, len);
-    hold_delivery(&m, delivery, len);
-    if (known)
-        PUT("known\n");
-    else
-        PUT("new\n");
+    struct shape shape = read_delivery(&m, path, second);
+    if (shape.known)
+        take_delivery(&m, merged, merge_numbers(&m, merged, second, shape));
 }
 
 /* The reason for which a question gets no value, or 0: whether a delivery is needed, whether the place is of the model, and the question's own last test, with
@@ -510,6 +568,8 @@ static bool answer_call(const struct words *words)
         file_counter(path);
     else if (says(name, "delivery") && words->count == 2 && is_path(path))
         file_delivery(path);
+    else if (says(name, "merge") && words->count == 2 && is_path(path))
+        merge_delivery(path);
     else
         return false;
     return true;

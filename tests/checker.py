@@ -1,5 +1,5 @@
-"""Checks models and deliveries as document 01 words it, and counter files as request A.2 does, and sums chances and mean steps over runs, all in exact whole
-numbers."""
+"""Checks models and deliveries as document 01 words it, and counter files as request A.2 does, merges deliveries as request A.5 does, and sums chances and mean
+steps over runs, all in exact whole numbers."""
 import itertools
 import struct
 from collections import namedtuple
@@ -277,6 +277,13 @@ def accepted_figures(model, delivery):
     return figures_of(table, shape_of(table, delivery), list(struct.iter_unpack("<4BI", delivery)))
 
 
+def file_of(table, figures):
+    """The delivery file of these figures: in each record what is due there, and the number."""
+    shape = "U" + "L" * (figures.lower is not None) + "R" * (figures.mean is not None)
+    numbers = [number for block in figures if block is not None for number in block]
+    return b"".join(struct.pack("<4BI", *due, number) for due, number in zip(heads_due(table, shape), numbers))
+
+
 def printed(model, delivery):
     """The lines that `showbounds` prints."""
     refusal = check_delivery(model, delivery)
@@ -292,6 +299,29 @@ def printed(model, delivery):
     for row, mean in zip(table.rows, figures.mean or []):
         lines.append("steps %d %d %d" % (*row, mean))
     return "".join(line + "\n" for line in lines)
+
+
+# The delivery that is merged of two for one model (request A.5).
+
+def merged_figures(one, other):
+    return Figures(merged_uppers(one.upper, other.upper), merged_lowers(one.lower, other.lower), merged_means(one.mean, other.mean))
+
+
+def merged_uppers(one, other):
+    """The smaller upper of each pair."""
+    return [min(pair) for pair in zip(one, other)]
+
+
+def merged_lowers(one, other):
+    """The larger lower of each pair where both have lowers; else none."""
+    return None if one is None or other is None else [max(pair) for pair in zip(one, other)]
+
+
+def merged_means(one, other):
+    """The smaller mean of each pair where both have mean steps; else those of the one that has them, if any."""
+    if one is None or other is None:
+        return other if one is None else one
+    return [min(pair) for pair in zip(one, other)]
 
 
 # The counter file, and the model that it makes (request A.2).

@@ -475,12 +475,12 @@ def true_desk(tree):
         make(tree.work / name)
     tree.run("desk")
     for name, lines in (("missing", 0), ("a-directory", 1), ("a-fifo", 1), ("shut", 1)):
-        calls = "model %s\ncounter %s\nmodel model.tab\ndelivery %s\nmargin\n" % (name, name, name)
+        calls = "model %s\ncounter %s\nmodel model.tab\ndelivery %s\nmerge %s\ndelivery bounds.cer\nmerge %s\n" % ((name,) * 5)
         ran = tree.run("desk", given=calls.encode(), **standin.nobody())
-        need_ran("the desk on %s" % name, ran, 0, b"refused 10 0 0\nrefused 46 0 0\naccepted\nrefused 20 0 0\nrefused 42 0 0\n", lines=3 * lines)
+        need_ran("the desk on %s" % name, ran, 0, b"refused 10 0 0\nrefused 46 0 0\naccepted\nrefused 20 0 0\nrefused 42 0 0\nnew\nrefused 20 0 0\n", lines=4 * lines)
         need(all(line.startswith(name + ": ") for line in ran.lines()), "the desk on %s: not the warning" % name, ran)
-    calls = b"model model.tab\ndelivery bounds.cer\ndelivery bounds.cer\nupper 0 0 1\nno call\nclear\nmargin"
-    need_ran("the desk on W", tree.run("desk", given=calls), 0, b"accepted\nnew\nknown\nvalue 524288\nunclear\ncleared\nrefused 40 0 0\n", lines=0)
+    calls = b"model model.tab\ndelivery bounds.cer\ndelivery bounds.cer\nmerge bounds.cer\nupper 0 0 1\nno call\nclear\nmerge bounds.cer\nmargin"
+    need_ran("the desk on W", tree.run("desk", given=calls), 0, b"accepted\nnew\nknown\nknown\nvalue 524288\nunclear\ncleared\n" + b"refused 40 0 0\n" * 2, lines=0)
     shutil.copy(EXAMPLES / "queue" / "counter.tab", tree.work)
     need_ran("the desk on the queue", tree.run("desk", given=b"counter counter.tab\ncounter counter.tab\nwithin 1 1 0 1\n"), 0, b"accepted\nrefused 41 0 0\nvalue 32768\n", lines=0)
     for what, ran in lost(tree, "desk", given=b"clear\n" * 50000):

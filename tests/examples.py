@@ -16,7 +16,8 @@ import bounds  # noqa: E402 (the folder of examples has to be on the path first)
 import checker  # noqa: E402
 
 NAMES = ("counter.tab", "model.tab", "bounds.cer")
-PRINTED = {"model.tab": ("expected.txt",), "counter.tab": ("calls.txt", "replies.txt")}  # what stands beside a file: what showbounds prints; calls, and the desk's replies
+SUPPLIERS = EXAMPLES / "suppliers"  # calls on the deliveries of two folders below it
+SUPPLIED = ("first", "second")
 NUMBERS = [*range(10, 16), *range(20, 28), *range(40, 49)]
 PLACED = [*range(11, 16), *range(21, 28), 47, 48]  # the numbers that name a place
 BAD_TEXTS = [  # text, the line at fault
@@ -68,13 +69,12 @@ def folders_with(name):
 
 
 def example_folders():
-    """Gives every folder of examples that has a model, and every one that has a counter file."""
-    models, counters = (folders_with(name) for name in PRINTED)
-    for name, beside in PRINTED.items():
-        for other in beside:
-            require(folders_with(name) == folders_with(other), f"a folder lacks its {name} or its {other}")
+    """Gives every folder of examples that has a model, every one that has a counter file, and every one that has calls: those with a counter file, and that of the suppliers."""
+    models, counters, called = (folders_with(name) for name in ("model.tab", "counter.tab", "calls.txt"))
+    require(models == folders_with("expected.txt"), "a folder lacks its model.tab or its expected.txt")
+    require(called == counters | {SUPPLIERS} == folders_with("replies.txt"), "a folder lacks its calls.txt or its replies.txt")
     require(models and counters and not models & counters and models | counters == folders_with("bounds.cer"), "a folder lacks its files")
-    return sorted(models), sorted(counters)
+    return sorted(models), sorted(counters), sorted(called)
 
 
 def check_round_trip(files, what):
@@ -211,6 +211,19 @@ def check_calls(desk, folder):
         require(printed == due, f"{folder}: replied {printed!r}, expected {due!r}")
 
 
+def check_suppliers():
+    """Checks that the two suppliers' deliveries are for one model, that of each block each is sharper at some place, and that the calls merge them, with every kind of reply."""
+    files = [files_in(SUPPLIERS / name) for name in SUPPLIED]
+    model, other = (found["model.tab"] for found in files)
+    require(model == other, f"{SUPPLIERS}: the models are not the same")
+    figures = [checker.accepted_figures(model, found["bounds.cer"]) for found in files]
+    for name, one, other in zip(checker.Figures._fields, *figures):
+        require(any(a < b for a, b in zip(one, other)) and any(a > b for a, b in zip(one, other)), f"{SUPPLIERS}: one of the two is nowhere sharper in {name}")
+    calls, replies = ((SUPPLIERS / name).read_text(encoding="utf-8").splitlines() for name in ("calls.txt", "replies.txt"))
+    merged = [reply.split()[:2] for call, reply in zip((call for call in calls if not call.startswith("#")), replies) if call.startswith("merge ")]
+    require({words[-1] for words in merged} == {"40", "42", "24", "new", "known"}, f"{SUPPLIERS}: not every kind of reply to a merge: {merged}")
+
+
 def check_refusals_explained(folders):
     """Checks that a refusal in expected.txt stands alone, and that bounds.py explains every one, also those in replies.txt."""
     for folder in folders:
@@ -230,7 +243,7 @@ def main():
     parser.add_argument("--desk", metavar="FILE", help="also run this desk on the calls of each example that has some")
     options = parser.parse_args()
     program, desk = (path and str(Path(path).resolve()) for path in (options.program, options.desk))
-    models, counters = example_folders()
+    models, counters, called = example_folders()
     folders = models + counters
     for folder in folders:
         check_folder(folder)
@@ -238,15 +251,17 @@ def main():
         check_program(program, folder)
     for folder in counters:
         check_made(folder)
+    for folder in called:
         check_calls(desk, folder)
+    check_suppliers()
     check_not_made()
-    check_refusals_explained(folders)
+    check_refusals_explained(folders + [SUPPLIERS])
     check_random_files(300)
     check_missing_files()
     check_bad_texts()
     check_explanations()
     ran = "with the programs' output" if program and desk else "with one program's output" if program or desk else "no program run"
-    print(f"examples: {len(folders)} folders, 300 random files, {len(BAD_TEXTS)} bad texts,"
+    print(f"examples: {len(folders)} folders, {len(called)} lists of calls, 300 random files, {len(BAD_TEXTS)} bad texts,"
           f" {len(NUMBERS)} refusals explained, {ran}: all as expected")
 
 

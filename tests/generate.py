@@ -1,4 +1,5 @@
-"""Makes the cases: the edges of document 01, deliveries accepted at the edge, and changes of them by one number, one record or some bytes. So for counter files (request A.2)."""
+"""Makes the cases: the edges of document 01, deliveries accepted at the edge, and changes of them by one number, one record or some bytes. So for counter files
+(request A.2). Besides, deliveries of several suppliers, to be merged (request A.5)."""
 import itertools
 import random
 import struct
@@ -303,6 +304,82 @@ def alike(rng, table):
     numbers = [[pair for letter, pair in others if letter == block] for block in "ULR"]
     orders = [tuple(cut_to(shape, figures) for figures in pair) for pair in exchanged(table, whole) for shape in shapes if "L" in shape]
     return [list(itertools.combinations([cut_to(shape, whole) for shape in shapes], 2)), zeros, kinds, orders, *numbers]
+
+
+# Several suppliers' deliveries for one model: each may be the sharper one at some entries and rows, and another at others (request A.5).
+
+def least_above(table, upper, strict):
+    """The least uppers that f of the given ones lets stand."""
+    add = 0 if strict else (1 << 36) - 1
+    return [((side + add) >> 36) + strict if live else 0 for side, live in zip(checker.f(table, upper), table.is_live)]
+
+
+def uppers_pass(table, upper, strict):
+    return all(u >= least for u, least in zip(upper, least_above(table, upper, strict)))
+
+
+def even_uppers(table, part):
+    """Uppers of which each lies about 1/part of itself above f, if there are any."""
+    return stand(lambda upper: [least + least // part for least in least_above(table, upper, 1)], [0] * len(table.entries), TOP)
+
+
+def drawn(rng, numbers, sides):
+    """Each number as it is or, at some places, drawn towards what its side lets stand. Sides grow with the numbers, so that what passed passes still."""
+    part = rng.random()
+    return [rng.choice((side, rng.randint(*sorted((number, side))))) if rng.random() < part else number for number, side in zip(numbers, sides)]
+
+
+def raised(rng, table, upper, strict):
+    """Some of the uppers higher, by as much as f of them lets stand."""
+    part = rng.random()
+    ups = [u if rng.random() < part else 0 for u in upper]
+    tried = ([min(TOP, u + up // by) for u, up in zip(upper, ups)] for by in (1, 4, 16, 64, 256, 1024, 4096))
+    return next((higher for higher in tried if uppers_pass(table, higher, strict)), upper)
+
+
+def roomy_uppers(rng, table):
+    """Two lists of uppers that pass, first where they need not be strict, then strict ones: even ones, all 2, all 1 and the least, as far as there are such."""
+    even, flat = even_uppers(table, rng.choice((4, 16, 64, 256, 1024))), [[value if live else 0 for live in table.is_live] for value in (TOP, ONE)]
+    plain, strict = (least_uppers(table, strict, [0] * len(table.entries)) for strict in (0, 1))
+    for is_strict, least in enumerate(([strict, plain], [strict])):
+        yield [upper for upper in (even, *(upper for upper in flat if uppers_pass(table, upper, is_strict)), *least) if upper]
+
+
+def supplied_uppers(rng, table, strict, roomy):
+    """Uppers that pass: those from which most suppliers start, or other roomy ones, raised or brought down at some entries."""
+    upper = rng.choice((roomy[0], roomy[0], roomy[0], rng.choice(roomy)))
+    for _ in range(rng.choice((0, 1, 2, 2, 2, 3))):
+        upper = raised(rng, table, upper, strict) if rng.randrange(2) else drawn(rng, upper, least_above(table, upper, strict))
+    return upper
+
+
+def supplied_lowers(rng, table):
+    """Lowers that pass beside any strict uppers, brought up from zero at some entries, in some rounds."""
+    lower = [0] * len(table.entries)
+    for _ in range(rng.choice((0, 1, 2, 4, 8, 16))):
+        lower = drawn(rng, lower, [side >> 36 for side in checker.f(table, lower)])
+    return lower
+
+
+def supplied_means(rng, table, upper):
+    """Mean steps that pass beside these uppers, brought down from roomy ones at some rows; None where there are none."""
+    least, times = least_means(table, upper), rng.choice((1, 2, 3))
+    if least is None or times * max(least) > MEAN_TOP:
+        return least
+    mean = [times * number for number in least]
+    sides = checker.mean_side(table, Figures(upper, None, mean))
+    return drawn(rng, mean, [max(MEAN_LEAST, (side + (1 << 36) - 1) >> 36) for side in sides])
+
+
+def suppliers(rng, table, each):
+    """Figures of up to so many suppliers for each shape, all of which pass; for a shape that no figures have, none."""
+    roomy = list(roomy_uppers(rng, table))
+    for shape in list(checker.SHAPES) * each:
+        strict = 1 if "L" in shape else rng.randrange(2)
+        upper = supplied_uppers(rng, table, strict, roomy[strict]) if roomy[strict] else None
+        mean = supplied_means(rng, table, upper) if upper and "R" in shape else None
+        if upper and (mean or "R" not in shape):
+            yield Figures(upper, supplied_lowers(rng, table) if "L" in shape else None, mean)
 
 
 # Changes of figures. Each takes (rng, table, figures) and hands back figures.

@@ -13,8 +13,10 @@ import sys
 import tempfile
 import threading
 import time
+from collections import Counter
 from pathlib import Path
 
+import checker
 import generate
 import plainpair
 import scripts
@@ -24,7 +26,10 @@ QUESTIONS, MOST_SYSTEM_CALLS = 100000, 1000
 READS = 70000  # more than a counter of 16 bits can count
 W_FILED = b"model w.tab\ndelivery w.cer\n"
 QUEUE_FILED = b"counter q.tab\ndelivery q.cer\n"
+SECOND_FIGURES = checker.Figures([620000, 600000, 0, 1310720], [560000, 300000, 0, 1048576], [500, 300])  # of another supplier for W
+SECOND = generate.delivery_file(checker.table_of(generate.MODEL_W), SECOND_FIGURES)
 FILLINGS = (b"a", b" ", b"0", b"#", b"\0", b"\xff", b"\r")
+MERGES = ("merge: known", "merge: new", "merge: 40", "merge: 42", "merge: 20")  # replies that random scripts have to bring
 LENGTHS = (1, 254, 263, 264, 299, 300, 301, 302, 4096, 65535, 65536, 65537, 100000, 131072)
 
 
@@ -39,10 +44,11 @@ class Room:
         self.program, self.root = program, root
         self.folder = scripts.make_folder(random.Random(1), 0)
         _, model, delivery, _ = next(generate.documented_edges())
-        self.folder.files.update({b"w.tab": model, b"w.cer": delivery, b"q.tab": generate.QUEUE, b"q.cer": generate.queue_delivery(), b"heavy.tab": b"", b"heavy.cer": b""})
-        for label, model, delivery in generate.far_ends():
-            if label == "a shortfall of 19 digits":
-                self.folder.files.update({b"heavy.tab": model, b"heavy.cer": delivery})
+        self.folder.files.update({b"w.tab": model, b"w.cer": delivery, b"w2.cer": SECOND, b"q.tab": generate.QUEUE, b"q.cer": generate.queue_delivery()})
+        _, heavy, too_high = next(case for case in generate.far_ends() if case[0] == "a shortfall of 19 digits")
+        table = checker.table_of(heavy)
+        light = checker.file_of(table, checker.Figures(generate.least_uppers(table, 0, [0] * len(table.entries)), None, None))
+        self.folder.files.update({b"heavy.tab": heavy, b"light.cer": light, b"heavy.cer": too_high, b"h": too_high})
         self.folder.write(os.fsencode(root))
 
     def put(self, name, data):
@@ -132,7 +138,7 @@ def any_pieces(room, rng):
 
 def any_end(room, rng):
     """The input may end anywhere, with or without a newline."""
-    script = W_FILED + b"margin\n\n# clear\nupper 0 0 1\nlive 1 0 0\nwithin 3 0 0 0\nclear\n" + QUEUE_FILED + b"upper 1 0 0\nwithin 2 1 0 1\nclear\n"
+    script = W_FILED + b"margin\n\n# clear\nupper 0 0 1\nlive 1 0 0\nwithin 3 0 0 0\nmerge w2.cer\nmargin\nmerge w.cer\nclear\n" + QUEUE_FILED + b"upper 1 0 0\nwithin 2 1 0 1\nclear\n"
     for end in range(len(script) + 1):
         room.compare("ended after %d bytes" % end, script[:end], room.run_at_once(script[:end]))
     return "%d ends of one script" % (len(script) + 1)
@@ -141,18 +147,19 @@ def any_end(room, rng):
 def any_byte(room, rng):
     """Every byte before, within and after a call, in a path and in a comment."""
     forms = (b"%bmargin", b"mar%bgin", b"margin%b", b"upper 0 %b 0", b"live 1 0%b0", b"within%b3 0 0 0", b"within 3 0 %b 1", b"model w.tab%b", b"delivery %bw.cer",
-             b"counter q.tab%b", b"counter%bq.tab", b"#%b", b"%b")
+             b"counter q.tab%b", b"counter%bq.tab", b"merge w%b.cer", b"merge%bw.cer", b"mer%bge w.cer", b"#%b", b"%b")
     script = W_FILED + b"".join(form % bytes([byte]) + b"\n" for byte in range(256) for form in forms)
-    script += b"".join(b"clear\ncounter %bq.tab\nmargin\n" % bytes([byte]) for byte in range(256))
+    script += b"".join(b"clear\ncounter %bq.tab\nmargin\n" % bytes([byte]) for byte in range(256)) + b"clear\n"
+    script += b"".join(W_FILED + b"merge %bw2.cer\nupper 0 0 0\nclear\n" % bytes([byte]) for byte in range(256))
     room.compare("every byte", script, room.run_at_once(script))
     room.compare("every byte, a byte at a time", script, room.run_in_pieces(by_bytes(rng, script)))
-    return "every byte in %d places" % (len(forms) + 1)
+    return "every byte in %d places" % (len(forms) + 2)
 
 
 def long_lines(room, rng):
     """Lines of many lengths, each between calls that show that nothing changed, and as the last line without a newline."""
     for filling in FILLINGS:
-        for start in (b"", b"#", b"model w.tab ", b"counter q.tab"):
+        for start in (b"", b"#", b"model w.tab ", b"counter q.tab", b"merge w2.cer"):
             lines = [start + filling * (length - len(start)) for length in LENGTHS if length >= len(start)]
             script = W_FILED + b"\nmargin\n".join(lines) + b"\nmargin\n" + lines[-2]
             room.compare("long lines", script, room.run_at_once(script))
@@ -161,10 +168,12 @@ def long_lines(room, rng):
 
 
 def dense_replies(room, rng):
-    """The most bytes of replies that few bytes of input can ask for."""
-    for script in (b"a\n" * QUESTIONS, b"model heavy.tab\n" + b"delivery heavy.cer\n" * 12000):
+    """The most bytes of replies that few bytes of input can ask for: a shortfall of 19 digits to a line of 7 bytes."""
+    for script in (b"a\n" * QUESTIONS, b"model heavy.tab\n" + b"delivery heavy.cer\n" * 12000, b"model heavy.tab\ndelivery light.cer\n" + b"merge h\n" * 30000):
         room.compare("dense replies", script, room.run_at_once(script))
-    return "replies of four times the input"
+    if len(room.expected(script)) <= 4 * len(script):
+        fail("the replies are no more than four times the input")
+    return "replies of more than four times the input"
 
 
 def filed_and_asked(rng, count):
@@ -278,7 +287,12 @@ def files_change(room, rng):
              (b"d", None, b"delivery d", "refused 20 0 0"), (b"d", None, b"margin", "value 45875"), (b"d", delivery, b"delivery d", "known"),
              (b"d", delivery[:32], b"delivery d", "new"), (b"d", delivery, b"margin", "refused 43 0 0"), (b"d", delivery, b"delivery d", "new"),
              (b"d", other, b"delivery d", "new"), (b"d", delivery, b"steps 1 0", "value 257"), (b"d", delivery, b"delivery d", "new"), (b"d", delivery, b"margin", "value 45875"),
-             (b"m", None, b"clear", "cleared"), (b"m", model[:-1], b"model m", "refused 10 0 0"), (b"m", model, b"model m", "accepted"),
+             (b"s", None, b"merge s", "refused 20 0 0"), (b"s", delivery, b"merge s", "known"), (b"s", SECOND, b"merge s", "new"), (b"s", None, b"upper 0 0 0", "value 620000"),
+             (b"s", None, b"upper 0 0 1", "value 524288"), (b"s", None, b"margin", "value 6873"), (b"s", None, b"merge s", "refused 20 0 0"), (b"s", SECOND, b"merge s", "known"),
+             (b"s", SECOND[:-4] + bytes(4), b"merge s", "refused 22 9 0"), (b"s", SECOND[:4] + bytes(4) + SECOND[8:], b"merge s", "refused 24 0 -36028797018963968"),
+             (b"s", SECOND[:32], b"merge s", "new"), (b"s", SECOND, b"margin", "refused 43 0 0"), (b"s", SECOND, b"steps 0 0", "value 500"), (b"d", delivery, b"delivery d", "new"),
+             (b"m", None, b"clear", "cleared"), (b"s", SECOND, b"merge s", "refused 40 0 0"), (b"m", model[:-1], b"model m", "refused 10 0 0"), (b"m", model, b"model m", "accepted"),
+             (b"s", None, b"merge s", "refused 42 0 0"), (b"s", SECOND, b"merge s", "refused 42 0 0"),
              (b"c", counter, b"counter c", "refused 41 0 0"), (b"c", None, b"clear", "cleared"), (b"c", None, b"counter c", "refused 46 0 0"),
              (b"c", counter[:-1], b"counter c", "refused 46 0 0"), (b"c", counter[8:], b"counter c", "refused 48 0 0"), (b"c", counter + counter[:8], b"counter c", "refused 47 6 0"),
              (b"c", counter, b"counter c", "accepted"), (b"c", None, b"within 1 0 0 0", "value 32768"), (b"c", None, b"counter c", "refused 41 0 0"),
@@ -292,24 +306,28 @@ def files_change(room, rng):
 
 
 def files_go_missing(room, rng):
-    """Random scripts: a file goes missing, comes back or becomes another just before the line that names it."""
-    made, originals, changes = [scripts.make_script(rng, room.folder)[0] for _ in range(60)], dict(room.folder.files), 0
+    """Random scripts: a file goes missing, comes back or becomes another just before the line that names it. Merges are among them, and get their replies."""
+    made, originals, changes, merges = [scripts.make_script(rng, room.folder)[0] for _ in range(60)], dict(room.folder.files), 0, Counter()
     for script in made:
-        driven, desk = Driven(room), plainpair.Desk(room.folder.reader([]))
+        driven, desk, answered = Driven(room), plainpair.Desk(room.folder.reader([])), []
         for line in desk.lines_of(script):
             name = posixpath.normpath(line.split(b" ")[-1])
             if name in originals and rng.randrange(2):
                 room.put(name, rng.choice((None, originals[name], rng.choice(list(originals.values())))))
                 changes += 1
-            driven.ask(line, desk.reply_to_line(line))
+            answered.append((line, desk.reply_to_line(line)))
+            driven.ask(*answered[-1])
         driven.close()
+        merges.update(scripts.merge_kinds(answered))
+    if not all(merges[kind] for kind in MERGES):
+        fail("among random scripts there is no %s" % [kind for kind in MERGES if not merges[kind]])
     return "%d files changed within random scripts" % changes
 
 
 # What goes wrong outside.
 
 def no_file(room, rng):
-    """A file that may not be read and a folder count as empty, with a warning; so does one that is missing, without."""
+    """A file that may not be read and a folder count as empty, with a warning; so does one that is missing, without. Where the register refuses the call anyway, none is looked for."""
     secret, own = Path(room.root, "secret"), Path(room.root, "desk")
     secret.write_bytes(room.folder.files[b"w.tab"])
     secret.chmod(0)
@@ -317,11 +335,12 @@ def no_file(room, rng):
     for path in (own, Path(room.root)):
         path.chmod(0o755)
     user = {"user": "nobody"} if os.getuid() == 0 else {}
-    done = subprocess.run([own], cwd=room.root, input=b"model secret\nmodel folder\nmodel gone\ncounter secret\ncounter folder\ncounter gone\n", capture_output=True,
-                          timeout=SECONDS, **user)
-    if done.stdout != b"refused 10 0 0\n" * 3 + b"refused 46 0 0\n" * 3:
+    model, counter, delivery, merge = (b"".join(b"%b %b\n" % (word, name) for name in (b"secret", b"folder", b"gone")) for word in scripts.FILINGS)
+    script = model + counter + merge + W_FILED + delivery + merge
+    done = subprocess.run([own], cwd=room.root, input=script, capture_output=True, timeout=SECONDS, **user)
+    if done.stdout != b"refused 10 0 0\n" * 3 + b"refused 46 0 0\n" * 3 + b"refused 40 0 0\n" * 3 + b"accepted\nnew\n" + b"refused 20 0 0\n" * 6:
         fail("files that cannot be read do not count as empty: %r" % done.stdout)
-    if done.stderr != b"secret: Permission denied\nfolder: Is a directory\n" * 2:
+    if done.stderr != b"secret: Permission denied\nfolder: Is a directory\n" * 4:
         fail("warnings: %r" % done.stderr)
     return "files that cannot be read"
 
@@ -361,11 +380,13 @@ class AwaitedPipe:
 
 
 # Calls that name pipes, each with its reply and whether it gets a warning. Of a pipe that the register's own reasons keep it from there is none.
-PIPE_CALLS = ((b"delivery filled.cer", b"refused 40 0 0", False), (b"model unwritten", b"refused 10 0 0", True), (b"model link", b"refused 10 0 0", True),
+PIPE_CALLS = ((b"delivery filled.cer", b"refused 40 0 0", False), (b"merge filled.cer", b"refused 40 0 0", False),
+              (b"model unwritten", b"refused 10 0 0", True), (b"model link", b"refused 10 0 0", True),
               (b"counter unwritten", b"refused 46 0 0", True), (b"counter link", b"refused 46 0 0", True), (b"counter filled.queue", b"refused 46 0 0", True),
               (b"model awaited", b"refused 10 0 0", True), (b"model filled.tab", b"refused 10 0 0", True), (b"model w.tab", b"accepted", False),
               (b"model filled.tab", b"refused 41 0 0", False), (b"delivery filled.cer", b"refused 20 0 0", True), (b"delivery unwritten", b"refused 20 0 0", True),
-              (b"counter filled.queue", b"refused 41 0 0", False), (b"counter awaited", b"refused 41 0 0", False))
+              (b"counter filled.queue", b"refused 41 0 0", False), (b"counter awaited", b"refused 41 0 0", False), (b"merge filled.cer", b"refused 42 0 0", False),
+              (b"delivery w.cer", b"new", False), (b"merge filled.cer", b"refused 20 0 0", True), (b"merge awaited", b"refused 20 0 0", True), (b"merge link", b"refused 20 0 0", True))
 
 
 def named_pipes(room, rng):

@@ -1,7 +1,8 @@
 """A desk around the plain pair of document 01: the last accepted model since the last clearing, and the last delivery accepted for it, as bytes. Chances of
-short runs are those of request A.1, and counter files those of request A.2, of which the model that they make is held. A delivery's mark is that of request A.3.
+short runs are those of request A.1, and counter files those of request A.2, of which the model that they make is held. A delivery's mark is that of request A.3. The
+delivery merged of the held one and a second is that of request A.5: its bytes are made here, and held as those of an accepted file.
 
-Reads calls as lines on standard input and prints the replies. Each method is one rule, so that tests/wrongdesks.py can change one at a time.
+Reads calls as lines on standard input and prints the replies. Each method is one rule, so that tests/wrongdesks.py and tests/merging.py can change one at a time.
 """
 import os
 import stat
@@ -15,8 +16,8 @@ NO_MODEL, MODEL_HELD, NO_DELIVERY, NO_BLOCK, NOT_OF_MODEL, TOO_MANY_STEPS = rang
 MODEL_READ, DELIVERY_READ, COUNTER_READ = 10241, 17409, 1537  # bytes read of a file: one more than any that can pass has
 LONGEST_LINE, LONGEST_PATH, MOST_DIGITS = 300, 255, 9
 MOST_STEPS = 3  # of a chance that may be asked for
-ARGUMENTS = {b"clear": "", b"model": "f", b"counter": "f", b"delivery": "f", b"upper": "nnn", b"lower": "nnn", b"steps": "nn", b"margin": "", b"live": "nnn",
-             b"within": "nnnn"}  # n: number, f: file
+ARGUMENTS = {b"clear": "", b"model": "f", b"counter": "f", b"delivery": "f", b"merge": "f", b"upper": "nnn", b"lower": "nnn", b"steps": "nn", b"margin": "",
+             b"live": "nnn", b"within": "nnnn"}  # n: number, f: file
 
 
 class Refused(Exception):
@@ -131,6 +132,16 @@ class PlainPair:
         self.hold_delivery(delivery)
         return mark
 
+    def merge_delivery(self, path):
+        self.needs_model()
+        self.needs_delivery()
+        second = self.read(path, DELIVERY_READ)
+        self.judge_delivery(second)
+        merged = self.merged_of(self.delivery, second)
+        mark = self.mark_of(merged)
+        self.hold_delivery(merged)
+        return mark
+
     def judge_model(self, model):
         number, place = checker.check_model(model)
         if number:
@@ -149,6 +160,10 @@ class PlainPair:
         refusal = verdict(self.model, delivery)
         if refusal != checker.ACCEPTED:
             raise Refused(*refusal)
+
+    def merged_of(self, held, second):
+        """The delivery file that is held of the held one and an accepted second one."""
+        return checker.file_of(self.table(), checker.merged_figures(figures_of(self.model, held), figures_of(self.model, second)))
 
     def mark_of(self, delivery):
         """Known if a delivery is held that is the same, else new."""
@@ -283,8 +298,8 @@ class Desk(PlainPair):
         return name, [word if kind == "f" else self.number(word) for kind, word in zip(kinds, words)]
 
     def reply_to(self, name, arguments):
-        calls = {b"clear": self.clear, b"model": self.file_model, b"counter": self.file_counter, b"delivery": self.file_delivery, b"upper": self.upper,
-                 b"lower": self.lower, b"steps": self.steps, b"margin": self.margin, b"live": self.live, b"within": self.within}
+        calls = {b"clear": self.clear, b"model": self.file_model, b"counter": self.file_counter, b"delivery": self.file_delivery, b"merge": self.merge_delivery,
+                 b"upper": self.upper, b"lower": self.lower, b"steps": self.steps, b"margin": self.margin, b"live": self.live, b"within": self.within}
         try:
             return calls[name](*arguments)
         except Refused as refusal:
@@ -303,6 +318,11 @@ class Desk(PlainPair):
     def replies(self, text):
         """The replies to each line of a whole input, without those lines that get none."""
         return [reply for reply in map(self.reply_to_line, self.lines_of(text)) if reply is not None]
+
+
+def desk_with(**methods):
+    """A kind of desk: this one with some of its methods replaced."""
+    return type("OtherDesk", (Desk,), methods)
 
 
 def main():

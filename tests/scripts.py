@@ -6,6 +6,7 @@ import itertools
 import os
 import posixpath
 import random
+import struct
 import subprocess
 import sys
 import tempfile
@@ -19,6 +20,7 @@ import plainpair
 
 SCRIPTS_OF_A_FOLDER = 8
 PAIRS_OF_A_PART = 3  # of deliveries that differ in one part, at the most, for each theme
+MERGES_OF_A_THEME = 8  # pairs of accepted deliveries to be merged, for each theme
 LINES = (5, 60)  # of a script, the fewest and the most
 ENOUGH = 1000  # scripts from which on every kind has to occur
 FEWEST = 5  # times, at least, that every reason and every kind of line must then occur
@@ -39,10 +41,15 @@ LIKE_BESIDE_COUNTERS = tuple(dict.fromkeys("beside a counter, " + kind.split(", 
 SHORT = ("within: value above 0", "within: value 0", "within: 40", "within: 44", "within: 45", "within: 40 before 45", "within: 44 before 45")
 COUNTERS = ("counter: accepted", "counter: 41 beside a model", "counter: 41 beside a counter", "model: 41 beside a counter", "counter: 46", "counter: 47 at 0", "counter: 47 further on",
             "counter: 48 at 0", "counter: 48 further on", "beside a counter: new", "beside a counter: known", "beside a counter: value", "beside a counter: 24")
+# Merges (request A.5): their replies, where they stand among other calls, what is merged of which shapes, and what that is.
+MERGES = (*("merge: %s" % kind for kind in ("known", "new", "40", "42", *range(20, 28))), "merge: 40 after a clearing", "merge: 42 after a clearing",
+          *("merge: %s after a merge" % kind for kind in ("known", "new", "refused")), "delivery: known after a merge", "delivery: new after a merge", "margin: value after a merge",
+          *("merge: %s with %s" % shapes for shapes in itertools.product(checker.SHAPES, repeat=2)), "merge: known, of the held file", "merge: known, of another file",
+          "merge: new, the second", "merge: new, neither of the two", "beside a counter, merge: known", "beside a counter, merge: new")
 RANDOM_MODELS, MODELS_OF_PAIRS = 800, 200  # whose short chances are all asked for
 MOST_WALKED = 40  # records of a model whose short chances are worked out once more, by the checker
 FEWEST_SHORT = 1000  # at least: short chances above 0, those with a part through a pair, and refusals by 45
-FILINGS = (b"model", b"counter", b"delivery")  # the calls that name a file
+FILINGS = (b"model", b"counter", b"delivery", b"merge")  # the calls that name a file
 CONTROLS = bytes([*range(10), *range(11, 32), 127])  # all but the newline
 SHARED_MEMORY = Path("/dev/shm")
 
@@ -51,11 +58,11 @@ SHARED_MEMORY = Path("/dev/shm")
 
 class Folder:
     """Files by name: those that are accepted as a model and those as a counter file, each a theme (the call's word, the name) with the deliveries made for it, the
-    accepted ones among these, and lists of pairs of accepted ones that are alike; and other files."""
+    accepted ones among these, lists of pairs of accepted ones that are alike, and accepted ones with what is merged of them; and other files."""
 
     def __init__(self, cases, counters=()):
         self.files, self.names, self.directories = {}, {}, {b"folder", b"sub"}
-        self.themes, self.others, self.deliveries, self.certificates, self.alike = [], {b"model": [], b"counter": []}, {}, {}, {}
+        self.themes, self.others, self.deliveries, self.certificates, self.alike, self.merges = [], {b"model": [], b"counter": []}, {}, {}, {}, {}
         for model, delivery in cases:
             self.add_case(b"model", model, model, delivery)
         for counter, delivery in counters:
@@ -88,6 +95,12 @@ class Folder:
         kept = [(one, other) for one, other in made if one != other and all(plainpair.verdict(model, file) == checker.ACCEPTED for file in (one, other))]
         if kept:
             self.alike.setdefault(theme, []).append([(self.name_of(one), self.name_of(other)) for one, other in kept])
+
+    def add_merge(self, theme, one, other, third):
+        """The names of three accepted deliveries for a theme, and of what is merged of the first two."""
+        figures = [plainpair.figures_of(self.model(theme), self.files[name]) for name in (one, other)]
+        merged = self.name_of(checker.file_of(self.table(theme), checker.merged_figures(*figures)))
+        self.merges.setdefault(theme, []).append((one, other, third, merged))
 
     def refused(self, theme):
         """The names of deliveries that are refused beside a theme."""
@@ -173,12 +186,20 @@ def far_cases():
 
 
 def make_folder(rng, number):
-    """A folder of files, each of its themes with pairs of deliveries that are alike."""
+    """A folder of files, each of its themes with pairs of deliveries that are alike, and with some to be merged."""
     folder = plain_folder(rng, number)
     for theme in folder.themes:
         for pairs in generate.alike(rng, folder.table(theme)):
             folder.add_alike(theme, rng.sample(pairs, min(len(pairs), PAIRS_OF_A_PART)))
+        names = supplied(rng, folder, theme) if number == 0 or rng.randrange(2) else folder.certificates.get(theme)
+        for _ in range(MERGES_OF_A_THEME if names else 0):
+            folder.add_merge(theme, *rng.choices(names, k=3))
     return folder
+
+
+def supplied(rng, folder, theme):
+    """The names of deliveries of several suppliers for a theme."""
+    return [folder.name_of(generate.delivery_file(folder.table(theme), figures)) for figures in generate.suppliers(rng, folder.table(theme), 1)]
 
 
 def plain_folder(rng, number):
@@ -231,7 +252,7 @@ def path_of(rng, name):
 
 
 def filing(rng, folder, theme):
-    """A model, a counter file or a delivery: mostly the theme's, else another, one for another call, or a file that is missing or none."""
+    """A model, a counter file, a delivery or a merge: mostly the theme's, else another, one for another call, or a file that is missing or none."""
     absent, lot = [b"gone", b"folder", b"gone/1", b".", "fehlt-ü".encode()], rng.randrange(100)
     if rng.randrange(10) < 3:
         word, name = theme if lot < 50 else rng.choice(folder.themes)
@@ -241,7 +262,7 @@ def filing(rng, folder, theme):
         return word + b" " + path_of(rng, name)
     accepted, made = folder.certificates.get(theme), folder.deliveries[theme]
     names = accepted if accepted and lot < 50 else made if lot < 82 else list(folder.files) if lot < 90 else absent
-    return b"delivery " + path_of(rng, rng.choice(names))
+    return rng.choice((b"delivery ", b"delivery ", b"merge ")) + path_of(rng, rng.choice(names))
 
 
 def call(rng, folder, theme):
@@ -304,7 +325,7 @@ UNCLEAR = {
     "a tab for a space": lambda rng, line: line.replace(b" ", b"\t") if b" " in line else b"upper\t0 0 0",
     "a carriage return": lambda rng, line: line + b"\r",
     "a NUL": lambda rng, line: line + b"\0",
-    "byte 127": lambda rng, line: put_in(rng, rng.choice((line, b"model 1", b"counter 1", b"delivery 1")), b"\x7f"),
+    "byte 127": lambda rng, line: put_in(rng, rng.choice((line, b"model 1", b"counter 1", b"delivery 1", b"merge 1")), b"\x7f"),
     "a byte from 128 on": high_byte,
     "two spaces": double_space,
     "a space before": lambda rng, line: b" " + line,
@@ -318,7 +339,7 @@ UNCLEAR = {
     "no path": lambda rng, line: rng.choice(FILINGS) + b" ",
     "a path of 256 bytes": path_too_long,
     "another word": lambda rng, line: rng.choice((b"value 3", b"known", b"uppers 0 0 0", b"uppe 0 0 0", b"help", b"quit", b"cleared", b"clea", b"0", b"models 1", b"withi 0 0 0 0", b"counters 1",
-                                                 b"counte 1", b"count 1")),
+                                                 b"counte 1", b"count 1", b"merg 1", b"merges 1", b"merged 1")),
     "a space before #": lambda rng, line: b" # " + line,
 }
 SILENT = {
@@ -362,6 +383,32 @@ def filed_alike(rng, folder, theme):
     return list(itertools.chain.from_iterable(filed))
 
 
+def merged_forms(theme, refused, one, other, third, merged):
+    """Merges of a theme's deliveries among other calls: of two, again, with a third, of one with itself, after a refusal, of what was merged, filed as a file before or after; and with
+    no delivery and no model held."""
+    empty, filed = [b"clear"], [b"delivery " + one]
+    unfiled = [*empty, b" ".join(theme)]
+    yield from ([*filed, b"merge " + other],) * 4
+    for files in ((other, other), (other, one), (other, third), (other, third), (one,), (refused, other), (other, refused), (refused, one), (other, third, refused)):
+        yield [*filed, *(b"merge " + name for name in files)]
+    yield from ([*filed, b"merge " + other, b"delivery " + name] for name in (merged, other))
+    yield from ([b"delivery " + merged, b"merge " + name] for name in (one, third))
+    yield from ([*filed, *start, b"merge " + one, b"margin"] for start in (empty, empty, unfiled, unfiled))
+
+
+def merged_alike(rng, folder, theme):
+    """One of these forms, each merge now and then with questions. None where a theme has nothing to be merged."""
+    if theme not in folder.merges:
+        return []
+    lines = []
+    for line in rng.choice(list(merged_forms(theme, rng.choice(folder.refused(theme)), *rng.choice(folder.merges[theme])))):
+        word, _, name = line.partition(b" ")
+        lines.append(word + b" " + path_of(rng, name) if word in (b"delivery", b"merge") else line)
+        if word == b"merge":
+            lines += rng.choice(([], [b"margin"], [b"margin", question(rng, folder, theme)]))
+    return lines
+
+
 def chosen_theme(rng, folder):
     """A model or, every third time, a counter file."""
     word = rng.choice((b"model", b"model", b"counter"))
@@ -381,8 +428,9 @@ def make_script(rng, folder):
         if line == b"clear":
             theme = chosen_theme(rng, folder)
             lines += opening(rng, folder, theme) + asked_again(rng, lines)
-        if rng.randrange(8) == 0:
-            lines += filed_alike(rng, folder, theme)
+        lot = rng.randrange(16)
+        if lot < 4:
+            lines += (filed_alike if lot < 2 else merged_alike)(rng, folder, theme)
     return b"\n".join(lines[:due]) + b"\n" * (rng.randrange(4) > 0), kinds
 
 
@@ -407,8 +455,9 @@ def folders_of_scripts(seed, count):
 
 # The comparison.
 
-# A delivery that was accepted: its mark, the call that filed its model, the model, the delivery held before, itself, and whether one was refused since the last.
-Filed = namedtuple("Filed", "mark word model held delivery refused")
+# A delivery that was accepted: its mark, the call that filed its model, the model, the delivery held before, itself, and whether one was refused since the last; of one that
+# was merged, the second file, else None.
+Filed = namedtuple("Filed", "mark word model held delivery refused second")
 
 
 def expected(folder, script):
@@ -426,7 +475,8 @@ def answered_by(desk, script):
         answered.append((line, reply))
         word = line.split(b" ")[0] if reply == "accepted" else word
         if reply in ("known", "new"):
-            filed.append(Filed(reply, word, desk.model, held, desk.delivery, refused))
+            second = desk.read(line.split(b" ")[1], plainpair.DELIVERY_READ) if line.startswith(b"merge ") else None
+            filed.append(Filed(reply, word, desk.model, held, desk.delivery, refused, second))
         refused = reply not in ("known", "new") and (refused or (reply or "").startswith("refused 2"))
     return answered, filed
 
@@ -453,6 +503,22 @@ def agrees(program, root, script_name, script, answered, warnings):
         return True
     show_mismatch(script_name, answered, done.stdout, warnings, done.stderr)
     return False
+
+
+def is_noticed(kind, folder, script, right):
+    """Whether a reply of a kind of desk to a script is not the right one; up to the line where a wrong one cannot go on."""
+    desk, replied = kind(folder.reader([])), 0
+    try:
+        for line in desk.lines_of(script):
+            reply = desk.reply_to_line(line)
+            if reply is None:
+                continue
+            if right[replied:replied + 1] != [reply]:
+                return True
+            replied += 1
+    except (LookupError, TypeError, ValueError, ZeroDivisionError, struct.error):
+        return False
+    return replied < len(right)
 
 
 def short_kinds(line, reply):
@@ -483,6 +549,32 @@ def counter_kinds(answered):
             held = word
             yield word + ": accepted"
         held = None if answer == "cleared" else held
+
+
+def merge_kinds(answered):
+    """The kinds of replies to merges, by what came before them, and to calls after one."""
+    filed_by, is_cleared = None, False  # the call by which the held delivery came; whether one was held at the last clearing, and none since
+    for line, reply in answered:
+        word, (answer, number) = line.split(b" ")[0].decode("latin-1"), ((reply or "none") + " 0").split()[:2]
+        kind = number if answer == "refused" else answer
+        if word == "merge" and answer != "unclear":
+            yield "merge: " + kind
+            yield from ["merge: %s after a clearing" % kind] * (is_cleared and number in ("40", "42"))
+        if filed_by == "merge" and word in ("merge", "delivery", "margin"):
+            yield "%s: %s after a merge" % (word, answer)
+        filed_by, is_cleared = (word, False) if answer in ("known", "new") else (None, filed_by is not None) if answer == "cleared" else (filed_by, is_cleared)
+
+
+def merged_kinds(filed):
+    """The kinds that accepted merges count for: the two shapes, what the merged delivery is, and whether a counter file's model is held."""
+    for one in (one for one in filed if one.second is not None):
+        yield "merge: %s with %s" % tuple(checker.shape_of(checker.table_of(one.model), file) for file in (one.held, one.second))
+        if one.delivery == one.held:
+            yield "merge: %s, of %s file" % (one.mark, "the held" if one.second == one.held else "another")
+        else:
+            yield "merge: %s, %s" % (one.mark, "the second" if one.delivery == one.second else "neither of the two")
+        if one.word == b"counter":
+            yield "beside a counter, merge: " + one.mark
 
 
 def numbers_of(figures):
@@ -532,7 +624,9 @@ def history_kinds(filed):
 
 
 def filed_kinds(filed):
-    """The kinds that accepted deliveries count for: the mark with the shape, and with what one has in common with those before it."""
+    """The kinds that accepted deliveries count for: the mark with the shape, and with what one has in common with those before it. Merges count for their own."""
+    yield from merged_kinds(filed)
+    filed = [one for one in filed if one.second is None]
     yield from ("%s %s" % (one.mark, checker.shape_of(checker.table_of(one.model), one.delivery)) for one in filed)
     between = ((one, likeness) for one in filed if one.held not in (None, one.delivery) for likeness in likenesses(one.model, one.held, one.delivery))
     for one, likeness in itertools.chain(history_kinds(filed), between):
@@ -551,6 +645,7 @@ def count_kinds(kinds, answered, line_kinds):
             kinds[int(number)] += 1
     kinds.update(kind for line, reply in answered for kind in short_kinds(line, reply))
     kinds.update(counter_kinds(answered))
+    kinds.update(merge_kinds(answered))
     for at, kind in line_kinds.items():
         if at < len(answered) and answered[at][1] != ("unclear" if kind in UNCLEAR else None):
             sys.exit("the plain pair replies %r to %r, which has %s" % (*reversed(answered[at]), kind))
@@ -574,7 +669,7 @@ def compare_folder(program, number, folder, scripts, kinds):
 
 def show_kinds(kinds, count):
     """Prints how often each kind occurred; exits when one is too rare, if there were enough scripts for it."""
-    due = [*REASONS, *REPLIES, *FILED, *LIKE, *LIKE_BESIDE_COUNTERS, *SHORT, *COUNTERS, *UNCLEAR, *SILENT]
+    due = [*REASONS, *REPLIES, *FILED, *LIKE, *LIKE_BESIDE_COUNTERS, *SHORT, *COUNTERS, *MERGES, *UNCLEAR, *SILENT]
     print("; ".join("%s: %d" % (kind, kinds[kind]) for kind in due))
     rare = [kind for kind in due if kinds[kind] < FEWEST]
     if count < ENOUGH:

@@ -22,6 +22,9 @@ SHAPES_OF_W = {"w-u": {"lower": None, "mean": None}, "w-ul": {"mean": None}, "w-
 OTHERS = {"least": {"upper": [655360, 466034, 0, 1179648]}, "first": {"upper": [655361, 524288, 0, 1179648]}, "lowers": {"lower": [524288, 262144, 0, 1048576]},
           "zeros": {"lower": [0, 0, 0, 0]}, "one-two": {"lower": [1, 2, 0, 0]}, "two-one": {"lower": [2, 1, 0, 0]},
           "486": {"mean": [486, 256]}}  # a block of W that is accepted too
+# The blocks of another supplier of W, who is sharper at some places, and the names of the files of the four shapes with them.
+SECOND = {"upper": [638976, 540672, 0, 1310720], "lower": [581632, 262144, 0, 1048576], "mean": [500, 300]}
+SECOND_FILES = ("second-u", "second-ul", "second-ur", "second")
 # Another last record of each shape.
 LAST = {"w-u": {"upper": [655360, 524288, 0, 1179649]}, "w-ul": {"lower": [524288, 393216, 0, 1048575]}, "w-ur": {"mean": [512, 257]}, "w": {"mean": [512, 257]}}
 
@@ -65,6 +68,7 @@ def counter_files():
     }
     made = checker.made_model(queue)
     others = {"queue.tab": made, "queue.cer": generate.queue_delivery(), "queue-ul.cer": generate.queue_delivery(mean=None),
+              "queue-second.cer": generate.queue_delivery(upper=[735232, 372736, 229376, 888832], lower=[692224, 303104, 172032, 811008], mean=[2304, 2432]),
               "queue-24.cer": generate.queue_delivery(upper=[688128, 311296, 172032, 811008])}
     return {**accepted, **wrong, **others}
 
@@ -82,7 +86,9 @@ def delivery_files():
     accepted = {
         **of_shapes, **others, "one-ul.cer": certificate(one, [1052672], [1048574]), "one-ur.cer": certificate(one, [1048576], mean=[512]),
         "one-ul-514.cer": certificate(one, [1052672], [514]), "one-ur-514.cer": certificate(one, [1052672], mean=[514]),
-        "large.cer": large, "large-289.cer": generate.largest_certificate(mean=289),
+        "large.cer": large, "large-289.cer": generate.largest_certificate(mean=289), "large-second.cer": generate.largest_certificate(upper=16400, lower=16000, mean=289),
+        **{name + ".cer": of_w(**{**SECOND, **lacks}) for name, lacks in zip(SECOND_FILES, SHAPES_OF_W.values())},
+        "w-and-second.cer": of_w(upper=[638976, 524288, 0, 1179648], lower=[581632, 393216, 0, 1048576], mean=[500, 256]),
     }
     refused = {
         "20.cer": filed[:-8], "20-longer.cer": filed + b"\0", "21.cer": filed[:32] + b"U" + filed[33:], "22.cer": of_w(upper=[2097153, 524288, 0, 1179648]),
@@ -98,6 +104,7 @@ def delivery_files():
 def empty_register():
     yield from ("# An empty register: 40 to all but a model and a clearing, whatever the file.", "clear", "clear", *QUESTIONS)
     yield from ("upper 999999999 999999999 999999999", "within 0 0 0 0", "within 4 0 0 0", "within 4 9 9 9", "delivery w.cer", "delivery gone", "delivery sub", "delivery empty")
+    yield from ("merge w.cer", "merge gone", "merge sub", "merge empty")
 
 
 def refused_models():
@@ -110,6 +117,7 @@ def refused_models():
 def model_alone():
     yield from ("# W, and a second model: 41 whatever the file. Without a delivery: 42, but for live marks and short chances.", "model w.tab", "model w.tab", "model gone", "model 10.tab")
     yield from (*QUESTIONS, "live 1 0 0", "live 0 0 1", "live 1 0 1", "live 2 0 0", "live 0 1 0", "live 0 0 2", "upper 2 0 0", "lower 0 1 0", "steps 9 9")
+    yield from ("merge w.cer", "merge 24.cer", "merge gone", "merge sub", "merge empty", "upper 0 0 0")
 
 
 def short_chances():
@@ -135,6 +143,9 @@ def counters():
     yield from ("live 0 0 0", "live 1 0 0", "live 2 0 0", "live 0 1 0", "live 0 0 2", "within 3 0 1 0", "within 3 2 0 0", "delivery w.cer", "delivery queue-24.cer", "upper 0 0 0")
     yield from ("delivery queue.cer", *("%s %d 0 %d" % (name, u, v) for name in ("lower", "upper") for u in range(2) for v in range(2)), "steps 0 0", "steps 1 0", "margin")
     yield from ("delivery queue-24.cer", "margin", "delivery queue.cer", "delivery queue-ul.cer", "steps 0 0", "margin", "delivery queue.cer", "counter queue.ctr", "margin")
+    yield "# Merges beside the queue: with its own bounds, and with a second supplier's."
+    yield from ("merge queue.cer", "merge queue-ul.cer", "merge queue-24.cer", "merge w.cer", "margin", "merge queue-second.cer")
+    yield from (*("%s %d 0 %d" % (name, u, v) for name in ("lower", "upper") for u in range(2) for v in range(2)), "steps 0 0", "steps 1 0", "margin", "merge queue-second.cer")
 
 
 def counters_as_models():
@@ -189,6 +200,33 @@ def marks_and_calls():
     yield from ("delivery w.cer", "delivery 27.cer", "delivery w-486.cer", "delivery w.cer", "delivery w-u.cer", "delivery w-ur.cer", "delivery w.cer", "delivery ./w.cer")
 
 
+def merges():
+    yield "# Merges (request A.5): every shape with every other. Lowers where both have them, mean steps where either has; what is merged is held, and known when merged again."
+    asked = ("upper 0 0 0", "upper 0 0 1", "upper 1 0 1", "lower 0 0 0", "lower 0 0 1", "steps 0 0", "steps 1 0", "margin")
+    for held, second in itertools.product(SHAPES_OF_W, SECOND_FILES):
+        yield from ("delivery %s.cer" % held, "merge %s.cer" % second, *asked, "merge %s.cer" % second, "merge %s.cer" % held)
+    yield "# The second first, with itself, with what it has already, with what has all that it has, and with a third."
+    yield from ("delivery second.cer", "merge w.cer", *asked, "delivery w-and-second.cer", "merge second.cer", "delivery w.cer", "merge w.cer", "merge w-lowers.cer", "merge w-u-first.cer")
+    yield from ("merge w-and-second.cer", *asked, "delivery w.cer", "merge w-least.cer", "upper 0 0 1", "margin", "merge w-486.cer", "steps 0 0", "merge second.cer", *asked)
+
+
+def refused_merges():
+    yield "# A second delivery that is refused changes nothing."
+    for name in (name for name in delivery_files() if name[0] == "2"):
+        yield from ("merge %s" % name, "margin", "upper 0 0 0")
+    yield from ("merge gone", "merge empty", "merge sub", "merge w.tab", "merge large.cer", "merge one-ul.cer", "merge second.cer", "margin", "merge 24.cer", "delivery w.cer", "margin")
+
+
+def merges_after_clearing():
+    yield from ("# After a clearing there is nothing to merge with.", "merge second.cer", "clear", "merge second.cer", "merge gone", "model w.tab", "merge second.cer", "merge gone")
+    yield from ("upper 0 0 0", "delivery second.cer", "merge second.cer", "merge w.cer", "clear", "model w.tab", "merge w.cer", "delivery w.cer")
+    yield "# Lines that are no merge."
+    yield from ("merge", "merge ", "merge second.cer ", " merge second.cer", "merge  second.cer", "merge second.cer second.cer", "merge second.cer w.cer", "Merge second.cer", "merg second.cer")
+    yield from ("merges second.cer", "merged second.cer", "mergesecond.cer", "merge\tsecond.cer", "merge " + "n" * 255, "merge " + "n" * 256)
+    yield from (b"merge second\0.cer", b"merge second.cer\r", b"merge \x80\xff")
+    yield from ("upper 0 0 0", "merge ./" + "./" * 120 + "second.cer", "upper 0 0 0", "merge sub/../second.cer", "margin")
+
+
 def clearing():
     yield from ("# A clearing drops both files: the next delivery is new.", "clear", "margin", "delivery w.cer", "model w.tab", "margin", "delivery w.cer", "delivery w.cer")
 
@@ -240,6 +278,7 @@ def lengths():
 def largest():
     yield from ("# The largest files.", "clear", "model longer.tab", "model large.tab", "delivery w.cer", "delivery longer.cer", "delivery large.cer", "delivery large.cer", "margin")
     yield from ("delivery large-289.cer", "steps 7 15", "delivery large-289.cer", "delivery large.cer")
+    yield from ("merge large-289.cer", "merge longer.cer", "merge w.cer", "merge large-second.cer", "upper 7 15 7", "lower 7 15 7", "steps 7 15", "margin", "delivery large.cer")
     yield from ("upper 7 15 7", "lower 7 15 7", "steps 7 15", "live 7 15 7", "upper 0 0 0", "upper 7 0 0", "upper 0 15 0", "upper 0 0 7", "steps 7 0", "steps 0 15")
     yield from ("upper 8 0 0", "upper 0 16 0", "upper 0 0 8", "lower 7 15 8", "steps 8 0", "steps 0 16", "live 8 15 7", "live 7 16 7")
     yield from ("within 3 7 15 7", "within 2 7 15 7", "within 1 7 15 7", "within 3 7 15 0", "within 3 0 0 0", "within 3 8 15 7", "within 3 7 16 7", "within 3 7 15 8", "within 4 7 15 7")
@@ -251,11 +290,15 @@ def one_state():
     yield "# The same numbers as UL and as UR: each is new after the other."
     for name in ("one-ul-514.cer", "one-ur-514.cer") * 2:
         yield from ("delivery %s" % name, *QUESTIONS, "delivery %s" % name)
+    yield "# Merged, UL and UR are UR, whichever is held."
+    for pair in itertools.permutations(("one-ul.cer", "one-ur.cer"), 2):
+        yield from ("delivery %s" % pair[0], "merge %s" % pair[1], *QUESTIONS, "merge %s" % pair[1])
+    yield from ("delivery one-ul.cer", "merge one-ul-514.cer", *QUESTIONS)
     yield from ("clear", "model one.tab", "live 0 0 0")
 
 
 GROUPS = (empty_register, refused_models, counters, counters_as_models, model_alone, short_chances, refused_deliveries, all_of_w, marks_and_shapes, marks_and_records,
-          marks_and_calls, clearing, numbers, paths, unclear_words, unclear_bytes, lengths, short_chances_of_pairs, largest, one_state)
+          marks_and_calls, merges, refused_merges, merges_after_clearing, clearing, numbers, paths, unclear_words, unclear_bytes, lengths, short_chances_of_pairs, largest, one_state)
 
 
 def script():
@@ -270,11 +313,12 @@ def desk_over(files):
     return plainpair.Desk(lambda path, most: named.get(posixpath.normpath(path), b"")[:most])
 
 
-def check_complete(replies, filed):
-    """Stops unless each kind of reply and each reason occurs, and each mark with each likeness of two deliveries."""
+def check_complete(answered, filed):
+    """Stops unless each kind of reply and each reason occurs, each mark with each likeness of two deliveries, and each kind of merge."""
+    replies = [reply for _, reply in answered]
     words = {reply and reply.split()[0] for reply in replies}
     numbers = {int(reply.split()[1]) for reply in replies if reply and reply.startswith("refused")}
-    missing = (REPLIES - words) | (set(scripts.REASONS) - numbers) | ({*scripts.FILED, *scripts.LIKE} - set(scripts.filed_kinds(filed)))
+    missing = (REPLIES - words) | (set(scripts.REASONS) - numbers) | ({*scripts.FILED, *scripts.LIKE, *scripts.MERGES} - {*scripts.filed_kinds(filed), *scripts.merge_kinds(answered)})
     if missing:
         sys.exit("the stored script has no reply: %s" % sorted(map(str, missing)))
 
@@ -283,11 +327,10 @@ def made_files():
     """Path under crates/desk/ -> bytes."""
     files, text = {**model_files(), **counter_files(), **delivery_files()}, script()
     answered, filed = scripts.answered_by(desk_over(files), text)
-    replies = [reply for _, reply in answered]
-    check_complete(replies, filed)
+    check_complete(answered, filed)
     made = {"data/" + name: data for name, data in files.items()}
     made["stdin"] = text
-    made["stdout"] = "".join(reply + "\n" for reply in replies if reply is not None).encode()
+    made["stdout"] = scripts.printed(answered)
     return made
 
 

@@ -1,23 +1,18 @@
 """Shows that the scripts of tests/scripts.py are sharp: each wrong desk below must reply otherwise than the right one in some of them."""
 import argparse
 import itertools
-import struct
 import sys
 
 import checker
 import counters
+import merging
 import plainpair
 import scripts
 import soundness
 from checker import CERTAIN
-from plainpair import Desk, Refused
+from plainpair import Desk, Refused, desk_with as wrong
 
 SCRIPTS = 200  # the first of the default scripts
-
-
-def wrong(**methods):
-    """The desk with some of its methods replaced."""
-    return type("WrongDesk", (Desk,), methods)
 
 
 def refuses(number):
@@ -489,6 +484,16 @@ WRONG_COUNTERS = {
 }
 
 
+# Merges (request A.5): of the wrong desks of tests/merging.py, one for each rule.
+
+MERGES = ("the larger upper", "the upper of the held one", "the upper of the second", "the smaller lower", "the larger mean", "the mean of the held one where both have it",
+          "lowers where either has them", "no lowers", "mean steps only where both have them", "no mean steps", "the held one alone", "the second alone",
+          "shows the margin of the held one", "shows the margin of the second", "the mark against the second", "known where the second is the held one", "always new", "always known",
+          "42 before 40", "the file read before 40", "the file read before 42", "files the second where no delivery is held", "takes any second of a shape",
+          "the merged one held though the second is refused", "a refused second drops the held one", "the held one kept while reporting success",
+          "merges with what was filed last, not with what was merged since", "files the second as a delivery")
+
+
 def read_one_byte_less(self, path, most):
     return self.files(path, most - 1)
 
@@ -610,6 +615,7 @@ WRONG = {
     "a pair with one step too many": by_pairs(lambda self, n, rule, q: pair_of_request(self, n + 1, rule, q) // CERTAIN),
     "a pair's symbols exchanged": by_pairs(lambda self, n, rule, q: pair_of_request(self, n, rule._replace(y=rule.x, x=rule.y), q)),
     **WRONG_COUNTERS,
+    **{"a merge: " + name: merging.WRONG_DESKS[name] for name in MERGES},
     "the shortfall left out": wrong(reply_to=refusal_cut(shortfall="0")),
     "the place left out": wrong(reply_to=refusal_cut(place="0")),
     "a byte less read of files": wrong(read=read_one_byte_less),
@@ -649,19 +655,8 @@ RIGHT = {  # which no script may notice
     "counter files by way of their model": wrong(file_counter=filed_as_its_model),
     "known by the bytes of the file": known_by(lambda self, delivery: delivery),  # a wrong desk until request A.3
     "known by the shape and the numbers of each block": known_by(lambda self, delivery: (self.shape_in(delivery), plainpair.figures_of(self.model, delivery))),
+    **{"a merge: " + name: kind for name, kind in merging.RIGHT_DESKS.items()},
 }
-
-
-def is_noticed(kind, folder, script, right):
-    """Whether a desk's replies to a script differ from the right ones; up to the line where a wrong one cannot go on."""
-    desk, replies, whole = kind(folder.reader([])), [], True
-    try:
-        for line in desk.lines_of(script):
-            replies.append(desk.reply_to_line(line))
-    except (LookupError, TypeError, ValueError, ZeroDivisionError, struct.error):
-        whole = False
-    replies = [reply for reply in replies if reply is not None]
-    return replies != (right if whole else right[:len(replies)])
 
 
 def noticing(cases):
@@ -670,9 +665,9 @@ def noticing(cases):
     for folder, script in cases:
         right = Desk(folder.reader([])).replies(script)
         for name, kind in WRONG.items():
-            noticed[name] += is_noticed(kind, folder, script, right)
+            noticed[name] += scripts.is_noticed(kind, folder, script, right)
         for name, kind in RIGHT.items():
-            if is_noticed(kind, folder, script, right):
+            if kind(folder.reader([])).replies(script) != right:
                 sys.exit("a right desk is taken for a wrong one: " + name)
     return noticed
 

@@ -37,7 +37,9 @@ returns-5 : tie.Need-returns-5
 returns-5 c =
     let args = c .before .before .args in
     rw (c .enum-told5 .given .1)
-    (by-cases (args .model) (λ none. rw none refl) (λ held. by-cases (args .delivery) (λ none. rw (held, none) refl) (λ filed. rw (held, filed) refl)))
+    (by-cases (args .model)
+    (λ m. by-cases (args .delivery) (λ d. simp (m, d)) (λ d. simp (m, d)))
+    (λ m. by-cases (args .delivery) (λ d. simp (m, d)) (λ d. simp (m, d))))
 
 pub change-reads-spec : {M : Type 1} → statement M
 change-reads-spec = tie.close (tie.spec enum-told enum-told-2 enum-told-3 enum-told-4 enum-told-5 returns returns-2 returns-3 returns-4 returns-5)
