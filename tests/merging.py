@@ -25,20 +25,22 @@ import soundness
 from checker import ACCEPTED, Figures, ONE
 from plainpair import Desk, Refused, desk_with
 
-MODELS = 110  # random ones, of which those are taken that have so many live entries:
+MODELS = 120  # random ones, of which those are taken that have so many live entries:
 LIVE = range(2, 150)
 SUPPLIERS = 4  # of each shape, for a model
 CHANGES = 14  # deliveries that are changed, and kept where they are refused, for a model
 JUDGED = 500  # merged deliveries that are held against runs, at most
 ASKED = 24  # questions on a merged delivery, at most; of the first of each model, all
+CROSSED = 2  # pairs that cross most, of every two shapes, for a model
 FEWEST = 10  # times, at least, that every kind occurs
+ENOUGH_CROSSED = 2000  # pairs, at least, whose uppers cross
 SHAPES = {  # of the held delivery and the second: lowers where both have them, mean steps where either has
     ("U", "U"): "U", ("U", "UL"): "U", ("U", "UR"): "UR", ("U", "ULR"): "UR",
     ("UL", "U"): "U", ("UL", "UL"): "UL", ("UL", "UR"): "UR", ("UL", "ULR"): "ULR",
     ("UR", "U"): "UR", ("UR", "UL"): "UR", ("UR", "UR"): "UR", ("UR", "ULR"): "UR",
     ("ULR", "U"): "UR", ("ULR", "UL"): "ULR", ("ULR", "UR"): "UR", ("ULR", "ULR"): "ULR",
 }
-SHAPE_KINDS = tuple("%s with %s" % shapes for shapes in SHAPES)
+SHAPE_KINDS = tuple("%s with %s%s" % (*shapes, crossed) for shapes in SHAPES for crossed in ("", ", uppers cross"))
 CROSSINGS = ("uppers cross", "lowers cross", "mean steps cross")
 MARGINS = ("a margin above both", "a margin between the two", "a margin that is the smaller")
 RESULTS = ("the held one again", "the second", "neither")
@@ -85,7 +87,7 @@ def crossings(model, pair):
 
 
 def cases_of(rng, model):
-    """Of every two shapes that the model has deliveries of, the pair that crosses most and now and then any pair, each with a third delivery."""
+    """Of every two shapes that the model has deliveries of, the pairs that cross most and now and then any pair, each with a third delivery."""
     files = accepted_files(rng, checker.table_of(model))
     for delivery in itertools.chain.from_iterable(files.values()):
         if checker.check_delivery(model, delivery) != ACCEPTED:
@@ -93,7 +95,7 @@ def cases_of(rng, model):
     for shapes in itertools.product(files, repeat=2):
         pairs = list(itertools.product(*(files[shape] for shape in shapes)))
         rng.shuffle(pairs)
-        crossed = sorted(pairs, key=lambda pair: len(crossings(model, pair)))[-1:]
+        crossed = sorted(pairs, key=lambda pair: len(crossings(model, pair)))[-CROSSED:]
         for held, second in crossed + rng.choice((pairs[:1], [])):
             yield Case(model, held, second, rng.choice(files[rng.choice(shapes)]))
 
@@ -199,8 +201,8 @@ def pair_kinds(case):
     model, held, second, _ = case
     table, merged = checker.table_of(model), plain_merge(model, held, second)
     pair, got = [plainpair.figures_of(model, file) for file in (held, second)], plainpair.figures_of(model, merged)
-    yield "%s with %s" % tuple(checker.shape_of(table, file) for file in (held, second))
-    yield from crossings(model, (held, second))
+    shapes, crossed = "%s with %s" % tuple(checker.shape_of(table, file) for file in (held, second)), crossings(model, (held, second))
+    yield from (shapes, *crossed, *("%s, %s" % (shapes, kind) for kind in crossed[:1] if kind == CROSSINGS[0]))
     yield RESULTS[0] if merged == held else RESULTS[1] if merged == second else RESULTS[2]
     if got.lower is not None:
         yield margin_kind(model, merged, held, second)
@@ -534,6 +536,8 @@ def check_cases(cases):
             fail("%s\n  model  %s\n  held   %s\n  second %s" % (fault, *(file.hex() for file in case[:3])))
         kinds.update(pair_kinds(case))
     check_kinds(kinds, (*SHAPE_KINDS, *CROSSINGS, *MARGINS, *RESULTS, *MODEL_KINDS))
+    if kinds[CROSSINGS[0]] < ENOUGH_CROSSED:
+        fail("only in %d pairs the uppers cross" % kinds[CROSSINGS[0]])
     return kinds
 
 
