@@ -14,4 +14,5 @@ pub mod Passages
 pub mod Mission
 pub mod KnownExactly
 pub mod QueueHeld
+pub mod SuppliersMerged
 pub mod Edges

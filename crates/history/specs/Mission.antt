@@ -1,6 +1,6 @@
 -- The mission's points 1 to 3 for a register after any list of calls, latest first. The record `Mission` gathers them, in the mission's order,
 -- and theorem `mission` proves it for every list.
-use Prim.Native.Nat.{ℕ, _≤_}
+use Prim.Native.Nat.{ℕ, _≤_, min}
 use mathlib.Core.Bool.{true}
 use mathlib.Core.List.{List, [], _∷_}
 use mathlib.Core.Logic.{_↔_}
@@ -20,6 +20,7 @@ use Rattle.wellformed.specs.Verdict.{modelTests}
 use Rattle.delivery.specs.Merged.{merged}
 use Rattle.verdict.specs.Verdict.{deliveryTests}
 use Rattle.verdict.specs.Accepted.{RightFiles}
+use Rattle.certificate.specs.Margin.{marginOf}
 use Rattle.onecounter.specs.Passage.{firstPassage}
 use Rattle.onecounter.specs.Promised.{PassageUpper, PassageLower, PassageMean}
 use Rattle.counter.specs.Moves.{movesOf}
@@ -106,7 +107,8 @@ MergeHeld cs =
     (b e d : List ℕ) → Holds cs b → HoldsDelivery cs e → taken (replyTo cs (merge d)) ≡ true
     → HoldsDelivery (merge d ∷ cs) (merged b e d) × RightFiles b (merged b e d)
 
--- A merge is marked known where the merged file is the very file that was held, byte by byte, and no other; merging the held file with itself is known.
+-- A merge is marked known where the merged file is the very file that was held, byte by byte, and no other; merging the held file with itself is known. (Numbers of
+-- the held file are bytes, which those of a list need not be; those of the merged one are.)
 abbrev pub MergeKnown : List Call → Type 0
 MergeKnown cs =
     (b e d : List ℕ) → Holds cs b → HoldsDelivery cs e → Bytes e → taken (replyTo cs (merge d)) ≡ true
@@ -178,11 +180,13 @@ LowerShown cs = (p z q l : ℕ) → replyTo cs (lower p z q) ≡ value l → Low
 abbrev pub MeanShown : List Call → Type 0
 MeanShown cs = (p z r : ℕ) → replyTo cs (meanSteps p z) ≡ value r → (b : List ℕ) × Holds cs b × MeanHolds (rulesOf b) p z r
 
--- Merging never makes what is shown less sharp (request A.5): of an upper, a lower or mean steps that are shown before a merge and after it.
+-- Request A.5: of the uppers, lowers and mean steps that are shown before a merge with d and after it, none is less sharp after it; and a margin that is shown both
+-- times is at least the smaller of the one before and that of d. (It may be smaller than the one before; lowers and margin are gone where d has no lowers.)
 pub record MergeSharpens (cs : List Call) (d : List ℕ) : Type 0 where
   pub uppers : (p z q u w : ℕ) → replyTo cs (upper p z q) ≡ value u → replyTo (merge d ∷ cs) (upper p z q) ≡ value w → w ≤ u
   pub lowers : (p z q l k : ℕ) → replyTo cs (lower p z q) ≡ value l → replyTo (merge d ∷ cs) (lower p z q) ≡ value k → l ≤ k
   pub means : (p z r t : ℕ) → replyTo cs (meanSteps p z) ≡ value r → replyTo (merge d ∷ cs) (meanSteps p z) ≡ value t → t ≤ r
+  pub margins : (b : List ℕ) (m n : ℕ) → Holds cs b → replyTo cs margin ≡ value m → replyTo (merge d ∷ cs) margin ≡ value n → min m (marginOf b d) ≤ n
 
 -- The live mark says live where some run empties the stack in q; it is 1 or 0.
 abbrev pub LiveShown : List Call → Type 0
@@ -260,7 +264,7 @@ pub record Mission (cs : List Call) : Type 0 where
   pub lowers-true : LowerShown cs
   pub means-true : MeanShown cs
   pub live-marks-true : LiveShown cs
-  -- A merge makes nothing that is shown less sharp (request A.5).
+  -- A merge makes no upper, lower or mean steps that are shown less sharp, and no margin smaller than the smaller of the two (request A.5).
   pub merges-sharpen : (d : List ℕ) → MergeSharpens cs d
   -- So are the chances of short runs, and they keep to the uppers (request A.1).
   pub short-chances-true : ShortShown cs

@@ -6,12 +6,14 @@ use mathlib.Core.Bool.{Bool, true, false, _&&_, _||_, false≢true, and-eq-true-
 use mathlib.Core.List.{List}
 use mathlib.Core.Path.{_≡_, refl, sym, _∙_}
 use Rattle.outcome.specs.declared.Outcome.the-variants.{Accepted}
+use Rattle.walks.specs.Order.{AtEntries}
 use Rattle.walks.proofs.Numbers.{max-either}
 use Rattle.ppda.specs.Units.{chanceUnit, stepUnit}
 use Rattle.ppda.specs.Rules.{IsModel}
 use Rattle.ppda.specs.Equations.{Vector, RowVector, Same, SameRows}
 use Rattle.ppda.specs.Bounds as Bounds
 use Rattle.ppda.specs.Merging.{smaller, larger}
+use Rattle.ppda.proofs.Agree.{lower-under-upper}
 use Rattle.ppda.proofs.Vectors.{f-same, mean-side-same}
 use Rattle.ppda.proofs.Merging.{smaller-left, smaller-right, uppers-merged, strict-merged, larger-keeps, below-merged, means-beside, means-merged}
 use Rattle.model.specs.Records.{statesOf, symbolsOf}
@@ -215,3 +217,11 @@ merged-bytes b e d one other =
     let fits = sized-fits (sized-of (model-accepted b .1 (one .model)) refl refl) in
     rw (merged-is b e d (one .delivery .shape) (other .delivery .shape))
     (bytes-of-made (statesOf b) (symbolsOf b) (mergedShape (one .shaped) (other .shaped)) _ _ _ (omega (arith, fits .few-states)) (omega (arith, fits .few-symbols)))
+
+-- Two accepted deliveries for one model never contradict each other, whatever their shapes: no lower of the one is above an upper of the other.
+pub deliveries-agree : (b e d : List ℕ) (one : RightFiles b e) → RightFiles b d → hasLowers (one .shaped) ≡ true
+    → AtEntries (statesOf b) (symbolsOf b) (λ p z q. lowersOf (statesOf b) (symbolsOf b) e p z q ≤ uppersOf (statesOf b) (symbolsOf b) d p z q)
+deliveries-agree b e d one other has =
+    let model = is-model b (one .model) in
+    lower-under-upper (rulesOf b) (statesOf b) (symbolsOf b) model _ _ _ (one .delivery .uppers .upper) (lowers-of b model (blocks-of (one .delivery)) has)
+    (other .delivery .uppers .upper)
