@@ -21,7 +21,7 @@ ghost use Rattle.shares.specs.Contracts.{leastInRow, leastShare};
 // A difference in units of a sum, divided by u times this, is a share in 1/2^20.
 const SHARE_UNIT: u64 = SUM_UNIT / CHANCE_UNIT;
 
-// The share (u − y) / u of an upper u and f(u) = y, in 1/2^20, rounded down. An upper that is not above f has none.
+// The share (u − y) / u of an upper u and f(u) = y, in 1/2^20, rounded down. An upper that is not above f has the share 0.
 fn share(u: u64, y: u64) -> u64
     requires { ⌜ u ≤ mostChance ⌝ }
     ensures { λ r. ⌜ r ≡ share u y ⌝ }
