@@ -49,6 +49,13 @@ REPLIES = ("merge: known", "merge: new", "merge: 40", "merge: 42", *("merge: %d"
 
 Case = namedtuple("Case", "model held second third")
 
+# Document 01's delivery for W, another one, and what is merged of them, each with its margin (edge E24 of docs/RULES.md).
+TABLED = (
+    (Figures([655360, 524288, 0, 1179648], [524288, 393216, 0, 1048576], [512, 256]), 45875),
+    (Figures([660000, 480000, 0, 1200000], [530000, 380000, 0, 1000000], [500, 300]), 10913),
+    (Figures([655360, 480000, 0, 1179648], [530000, 393216, 0, 1048576], [500, 256]), 17161),
+)
+
 
 def fail(what):
     sys.exit("merging: " + what)
@@ -100,9 +107,19 @@ def cases_of(rng, model):
             yield Case(model, held, second, rng.choice(files[rng.choice(shapes)]))
 
 
+def tabled_case():
+    """The case of the table, if the plain pair merges it as the table has it."""
+    model, (figures, margins) = generate.MODEL_W, zip(*TABLED)
+    files = [generate.delivery_file(checker.table_of(model), each) for each in figures]
+    if plain_merge(model, *files[:2]) != files[2] or tuple(plainpair.margin_of(model, file) for file in files) != margins:
+        fail("the table's pair is not merged as it should be")
+    return Case(model, *files)
+
+
 def all_cases(seed):
-    """Lists of cases, one for each model."""
+    """Lists of cases: that of the table, and one list for each model."""
     rng = random.Random(seed)
+    yield [tabled_case()]
     drawn = [generate.random_model(rng) for _ in range(MODELS)]
     for model in [*fixed_models(), *(model for model in drawn if sum(checker.table_of(model).is_live) in LIVE)]:
         yield list(cases_of(rng, model))
@@ -603,7 +620,7 @@ def main():
     merges, desks = show_noticed(check_wrong_merges(cases), "pair"), show_noticed(check_wrong_desks(folder, made, answered), "script")
     ran = "%d replies of the desk agree" % check_desk(str(Path(options.program).resolve()), folder, made, answered) if options.program else "no program run"
     print("; ".join("%s: %d" % (kind, count) for kind, count in [*kinds.items(), *replies.items()]))
-    print("merging: %d pairs of accepted deliveries of %d models; %d of what is merged of them hold of runs; %d of %d wrong merges noticed, and %d of %d wrong desks; %s"
+    print("merging: %d pairs of accepted deliveries in %d scripts; %d of what is merged of them hold of runs; %d of %d wrong merges noticed, and %d of %d wrong desks; %s"
           % (len(cases), len(families), judged, merges, merges, desks, desks, ran))
 
 

@@ -257,11 +257,11 @@ TABLE = [
          "          → min (margin m s g v) (margin m s g u) ≤ share")),
     Row("promises a lower strictly under the other upper", "ppda/lower_strictly_under_the_other_upper",
         ("((p z q : ℕ) → p < s → z < g → q < s → l p z q ≤ v p z q)",)),
-    Row("reads the file of a merge before the register's own reasons", "script/merge_file_read_before_own_reasons",
+    Row("reads the file of a merge before 42", "script/merge_file_read_before_42",
         ("Change::Merge => delivery & model,",)),
 
     Row("the desk replies to the call before, by definition", "script/reply_to_the_call_before",
-        ("use mathlib.Core.List.{List, [], _∷_, _++_, map, headD}", "{Call, clear, fileModel, fileCounter, fileDelivery, cleared}",
+        ("use mathlib.Core.List.{List, [], _∷_, _++_, map, headD}", "{Call, clear, fileModel, fileCounter, fileDelivery, merge, cleared}",
          "textBy es (call c) = replyLine (plainReply (pairOf ([] ++ es)) c)")),
     Row("the desk answers a question from what was held before the filing", "service/reply_from_before_the_call",
         ("            register = (after);", "            v = (register).view();")),

@@ -1,6 +1,6 @@
 -- What the mission comes to for two suppliers, after any calls that leave no model held: a model is filed, then the one's delivery, and the other's is merged with it.
--- Where both are right, the merged file is held and marked, what is shown of it is true of the runs, and it is no less sharp than what was shown before. Each step is
--- by `mission` itself.
+-- Where both are right, the merged file is held, and known exactly where it is the one held before; what is shown of it is true of the runs, and no less sharp than
+-- what was shown before. Each step is by `mission` itself.
 use Prim.Native.Nat.{ℕ, _≤_, min}
 use mathlib.Core.Bool.{true}
 use mathlib.Core.List.{List, _∷_}

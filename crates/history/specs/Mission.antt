@@ -244,7 +244,7 @@ pub record Mission (cs : List Call) : Type 0 where
   pub deliveries-marked : (d : List ℕ) → Marked (registerAfter cs) d
   pub known-held : KnownHeld cs
   pub held-known : HeldKnown cs
-  -- a merge is accepted where the second delivery is, and then the merged file is held, and known where it is the one held before (request A.5);
+  -- a merge is accepted where a delivery is held and the second one is accepted; then the merged file is held, and known where it is the one held before (request A.5);
   pub merges-taken : MergeTaken cs
   pub merges-held : MergeHeld cs
   pub merges-known : MergeKnown cs
