@@ -7,11 +7,9 @@ hold of the walk. Each wrong variant below must be noticed by some file. With --
 import argparse
 import contextlib
 import itertools
-import os
 import random
 import struct
 import sys
-import tempfile
 from collections import Counter
 from pathlib import Path
 
@@ -434,12 +432,7 @@ def check_desk(program, counters):
     """The desk answers as the plain pair does."""
     folder = scripts.Folder([])
     script = b"\n".join(script_of(folder, counters))
-    with tempfile.TemporaryDirectory(dir=scripts.SHARED_MEMORY if scripts.SHARED_MEMORY.is_dir() else None) as root:
-        folder.write(os.fsencode(root))
-        answered, warnings, _ = scripts.expected(folder, script)
-        if not scripts.agrees(program, root, "counter files", script, answered, warnings):
-            sys.exit(1)
-    return len(answered)
+    return scripts.check_desk(program, folder, "counter files", script, *scripts.expected(folder, script)[:2])
 
 
 def main():

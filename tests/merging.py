@@ -8,11 +8,9 @@ merge in another way may not. With --program, the desk replies to the scripts: e
 """
 import argparse
 import itertools
-import os
 import random
 import struct
 import sys
-import tempfile
 from collections import Counter, namedtuple
 from operator import ge, le
 from pathlib import Path
@@ -598,11 +596,7 @@ def show_noticed(found, unit):
 def check_desk(program, folder, made, answered):
     """The desk replies as the plain pair does, to all scripts in one input."""
     pairs = list(itertools.chain.from_iterable(answered))
-    with tempfile.TemporaryDirectory(dir=scripts.SHARED_MEMORY if scripts.SHARED_MEMORY.is_dir() else None) as root:
-        folder.write(os.fsencode(root))
-        if not scripts.agrees(program, root, "the scripts of merges", b"\n".join(made), pairs, b""):
-            sys.exit(1)
-    return len(pairs)
+    return scripts.check_desk(program, folder, "the scripts of merges", b"\n".join(made), pairs, b"")
 
 
 def main():

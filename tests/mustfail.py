@@ -237,6 +237,7 @@ TABLE = [
         ("mergedWith (some b) (some e) d = cond false none (some (merged b e d))",)),
     Row("keeps the held delivery and says that it merged", "register/merge_keeps_the_held_delivery",
         ("let joined = merged_shape(first, second); let shape = joined;", "mark_by(n, delivery, self.numbers, joined, merged)", "numbers: merged,")),
+    Row("keeps the held numbers under the merged shape", "register/merge_keeps_the_first_numbers", ("numbers: { let own = merged; own },",)),
     Row("tests 42 before 40", "filing/no_delivery_before_no_model", ("    if !(model & true) {",)),
     Row("tests 42 before 40, by definition", "history/no_delivery_before_no_model",
         ("    ofModel (x .model) (λ b. ofDelivery (x .delivery) (λ e. byVerdict (verdict b d) (cond false new (markOf b (some e) (merged b e d)))))",)),

@@ -441,7 +441,7 @@ def main():
     options, start = options.parse_args(), time.monotonic_ns()
     rng, told = random.Random(options.seed), []
     for test in TESTS:
-        with tempfile.TemporaryDirectory(dir=scripts.SHARED_MEMORY if scripts.SHARED_MEMORY.is_dir() else None) as root:
+        with scripts.in_memory() as root:
             told.append(test(Room(str(Path(options.program).resolve()), root), rng))
     print("desk: " + "; ".join(told))
     print("desk: input in pieces agrees in %d s" % ((time.monotonic_ns() - start) // 10**9))

@@ -2,6 +2,7 @@
 for the chances of short runs of every entry of several hundred models.
 """
 import argparse
+import contextlib
 import itertools
 import os
 import posixpath
@@ -505,6 +506,27 @@ def agrees(program, root, script_name, script, answered, warnings):
     return False
 
 
+def in_memory():
+    """A new directory, in memory where that can be."""
+    return tempfile.TemporaryDirectory(dir=SHARED_MEMORY if SHARED_MEMORY.is_dir() else None)
+
+
+@contextlib.contextmanager
+def unpacked(folder):
+    """A directory with the folder's files."""
+    with in_memory() as root:
+        folder.write(os.fsencode(root))
+        yield root
+
+
+def check_desk(program, folder, script_name, script, answered, warnings):
+    """Ends the test unless the desk replies to a script as the plain pair does; how many replies there are."""
+    with unpacked(folder) as root:
+        if not agrees(program, root, script_name, script, answered, warnings):
+            sys.exit(1)
+    return len(answered)
+
+
 def is_noticed(kind, folder, script, right):
     """Whether a reply of a kind of desk to a script is not the right one; up to the line where a wrong one cannot go on."""
     desk, replied = kind(folder.reader([])), 0
@@ -655,8 +677,7 @@ def count_kinds(kinds, answered, line_kinds):
 def compare_folder(program, number, folder, scripts, kinds):
     """How many scripts of a folder disagree: each by itself, and all of them in one input."""
     wrong = 0
-    with tempfile.TemporaryDirectory(dir=SHARED_MEMORY if SHARED_MEMORY.is_dir() else None) as root:
-        folder.write(os.fsencode(root))
+    with unpacked(folder) as root:
         for at, (script, line_kinds) in enumerate(scripts):
             answered, warnings, filed = expected(folder, script)
             count_kinds(kinds, answered, line_kinds)
@@ -719,8 +740,7 @@ def through_pairs(table, model):
 def compare_short(program, seed):
     """Compares all short chances of many models, says how many, and hands back how many models disagree."""
     folder, kinds, wrong = Folder((model, b"") for model in short_models(random.Random(seed))), Counter(), 0
-    with tempfile.TemporaryDirectory(dir=SHARED_MEMORY if SHARED_MEMORY.is_dir() else None) as root:
-        folder.write(os.fsencode(root))
+    with unpacked(folder) as root:
         for name in folder.models():
             table, model = folder.table((b"model", name)), folder.files[name]
             script = all_short(table, name)
