@@ -16,6 +16,7 @@ use Rattle.ppda.specs.Equations.{Vector, SameRows, Same}
 use Rattle.ppda.specs.Live.{alive}
 use Rattle.model.specs.Rules.{rulesOf}
 use Rattle.walks.proofs.Places.{row-split}
+use Rattle.walks.proofs.Exits.{file-ordered, at-places}
 use Rattle.delivery.specs.declared.shape.Shape.{Shape}
 use Rattle.delivery.specs.declared.shape.Shaped.the-variants.{Of}
 use Rattle.delivery.specs.Records.{valueAt}
@@ -61,10 +62,7 @@ rest-means s g h d p z hp hz =
 
 -- Every number below V is that of an entry, and every number below s × g that of a row.
 pub at-numbers : {s g : ℕ} (P : ℕ → Type 0) → AtEntries s g (λ p z q. P (entryAt s g p z q)) → (e : ℕ) → e < entriesIn s g → P e
-at-numbers {s} {g} P at e h =
-    let (row, q, hrow, hq, here) = row-split (s * g) s e h in
-    let (p, z, hp, hz, there) = row-split s g row hrow in
-    rw (here, there) (at p z q hp hz hq)
+at-numbers {s} {g} P at = at-places (file-ordered s g) P at
 
 pub at-row-numbers : {s g : ℕ} (P : ℕ → Type 0) → AtRows s g (λ p z. P (rowAt g p z)) → (e : ℕ) → e < rowsIn s g → P e
 at-row-numbers {s} {g} P at e h = let (p, z, hp, hz, here) = row-split s g e h in rw here (at p z hp hz)

@@ -1,4 +1,4 @@
-// How large a model is: its records, states and symbols, and the order of its rows and entries.
+// How large a model is: its records, states and symbols, and the orders of its rows and entries.
 
 use super::format::RECORD_BYTES;
 use super::record::state;
@@ -8,13 +8,13 @@ use super::record::top;
 use super::record::under;
 ghost use mathlib.Core.Path.{_≡_};
 ghost use Prim.Native.Nat.{_+_, _≤_, _<_, max};
-ghost use Rattle.walks.specs.Order.{rowsIn, entriesIn, rowAt, entryIn, entryAt};
+ghost use Rattle.walks.specs.Order.{rowsIn, entriesIn, rowAt, entryIn, entryAt, exitPlace, exitIn};
 ghost use Rattle.model.specs.Format.{mostRows, mostEntries};
 ghost use Rattle.model.specs.Records.{recordsOf, stateNamed, symbolNamed, statesOf, symbolsOf};
 ghost use Rattle.model.specs.Contracts.{HasRecord, Narrow, Fits, SizesTo};
 ghost use Rattle.model.specs.Sizes.{sizesOf};
 
-// The numbers of states and symbols. Rows (p, Z) and entries (p, Z, q) are numbered in the order of files.
+// The numbers of states and symbols. Rows (p, Z) and entries (p, Z, q) are numbered in the order of files; the register holds some entries by exit.
 pub struct Sizes {
     pub states: usize,
     pub symbols: usize,
@@ -59,6 +59,22 @@ impl Sizes {
         ensures { λ r. ⌜ (r ≡ entryAt (self .states) (self .symbols) p z q) × (r < entriesIn (self .states) (self .symbols)) ⌝ }
     {
         self.entry_in(self.row(p, z), q)
+    }
+
+    // The place of an entry in a list by exit (request A.6).
+    pub fn exit_place(self, p: usize, z: usize, q: usize) -> usize
+        requires { ⌜ Narrow (self .states) (self .symbols) × (p < self .states) × (z < self .symbols) × (q < self .states) ⌝ }
+        ensures { λ r. ⌜ (r ≡ exitPlace (self .states) (self .symbols) p z q) × (r < entriesIn (self .states) (self .symbols)) ⌝ }
+    {
+        (q * self.states + p) * self.symbols + z
+    }
+
+    // The place of the entry with exit q of a row in a list by exit, by the row's number.
+    pub fn exit_in(self, row: usize, q: usize) -> usize
+        requires { ⌜ Fits (self .states) (self .symbols) × (row < rowsIn (self .states) (self .symbols)) × (q < self .states) ⌝ }
+        ensures { λ r. ⌜ (r ≡ exitIn (self .states) (self .symbols) row q) × (r < entriesIn (self .states) (self .symbols)) ⌝ }
+    {
+        q * self.rows() + row
     }
 
     // The sizes of one record more: of the records before record i, these are the sizes.

@@ -1,4 +1,5 @@
--- Walks over numbers, lists, rows and entries, and the order of files: what every other crate's definitions are made of.
+-- Walks over numbers, lists, rows and entries, the order of files and the order by exit: what every other crate's definitions are made of.
 pub mod Sums
 pub mod Lists
 pub mod Order
+pub mod Edges

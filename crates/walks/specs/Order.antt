@@ -1,4 +1,5 @@
--- The order of files: rows ascend by (p, z), and entries by (p, z, q) (document 01, "Deliveries").
+-- The order of files: rows ascend by (p, z), and entries by (p, z, q) (document 01, "Deliveries"). And the order by exit, in which the register holds uppers and
+-- lowers (request A.6).
 use Prim.Native.Nat.{ℕ, _+_, _*_, _<_, _/_, _%_}
 use mathlib.Core.List.{List}
 use Rattle.walks.specs.Lists.{each}
@@ -20,6 +21,13 @@ entryIn s k q = k * s + q
 abbrev pub entryAt : ℕ → ℕ → ℕ → ℕ → ℕ → ℕ
 entryAt s g p z q = entryIn s (rowAt g p z) q
 
+-- Request A.6: the place of the entry (p, z, q) in a list by exit, which ascends by (q, p, z), and that of the entry with exit q of row number k (law `exit-rows`).
+abbrev pub exitPlace : ℕ → ℕ → ℕ → ℕ → ℕ → ℕ
+exitPlace s g p z q = (q * s + p) * g + z
+
+abbrev pub exitIn : ℕ → ℕ → ℕ → ℕ → ℕ
+exitIn s g k q = q * rowsIn s g + k
+
 -- A statement about every row, and about every entry.
 abbrev pub AtRows : ℕ → ℕ → (ℕ → ℕ → Type 0) → Type 0
 AtRows s g P = (p z : ℕ) → p < s → z < g → P p z
@@ -35,7 +43,11 @@ byRow g h k = h (k / g) (k % g)
 abbrev pub byEntry : {A : Type 0} → ℕ → ℕ → (ℕ → ℕ → ℕ → A) → ℕ → A
 byEntry s g h e = byRow g h (e / s) (e % s)
 
--- The lists of every row, and of every entry, one after the other in this order.
+-- What h says of place i of a list by exit, which is that of the entry (i / g % s, i % g, i / g / s): entries ascend in the order of q, p and Z (request A.6).
+abbrev pub byExit : {A : Type 0} → ℕ → ℕ → (ℕ → ℕ → ℕ → A) → ℕ → A
+byExit s g h i = h (i / g % s) (i % g) (i / g / s)
+
+-- The lists of every row, and of every entry, one after the other in the order of files.
 unfoldable pub eachRow : {A : Type 0} → ℕ → ℕ → (ℕ → ℕ → List A) → List A
 eachRow s g h = each s (λ p. each g (h p))
 
