@@ -8,7 +8,6 @@ use lib.Dec.{ltb, leb}
 use lib.ListN.{length}
 use borrow.Author.Tests.{leb-true}
 use Rattle.outcome.specs.declared.Outcome.the-variants.{Accepted}
-use Rattle.walks.specs.Order.{entriesIn}
 use Rattle.model.specs.declared.sizes.Sizes.{Sizes}
 use Rattle.model.specs.Format.{mostBytes}
 use Rattle.model.specs.Records.{statesOf, symbolsOf}
@@ -18,17 +17,16 @@ use Rattle.wellformed.proofs.Accepted.{model-accepted}
 use Rattle.delivery.specs.declared.shape.Shape.{Shape}
 use Rattle.delivery.specs.declared.shape.Shaped.the-variants.{Of}
 use Rattle.delivery.specs.Shapes.{hasLowers, hasMeans, shapeOf}
-use Rattle.delivery.specs.Numbers.{lowersOf, meansOf}
+use Rattle.delivery.specs.Numbers.{uppersOf, lowersOf, meansOf}
 use Rattle.verdict.specs.Marks.{liveMark}
 use Rattle.verdict.specs.Verdict.{verdict}
 use Rattle.certificate.specs.Margin.{marginOf}
 use Rattle.verdict.proofs.Accepted.{delivery-accepted}
 use Rattle.held.specs.declared.HeldModel.{HeldModel}
 use Rattle.held.specs.declared.Numbers.{Numbers}
-use Rattle.held.specs.Held.{filled, listed, listedRows, ifStanding, modelHeld, numbersHeld, holdsModel, shapeAs}
-use Rattle.held.specs.Contracts.{Values, Marks}
+use Rattle.held.specs.Held.{filled, listedByExit, listedRows, ifStanding, modelHeld, numbersHeld, holdsModel, shapeAs}
+use Rattle.held.specs.Contracts.{Marks}
 use Rattle.held.proofs.Listed.{live-listed}
-use Rattle.held.proofs.Blocks.{uppers-listed}
 
 -- ---- an accepted model
 
@@ -57,10 +55,10 @@ shape-by-verdict b d {n} same accepted is =
     rw (is, shape)
 
 module _ (b d : List ℕ) {s g : ℕ} (states : s ≡ statesOf b) (symbols : g ≡ symbolsOf b) where
-  pub numbers-are : (h : Shape) {u l r : List ℕ} {n m : ℕ} → n ≡ entriesIn s g → Values d n u
-      → l ≡ ifStanding (hasLowers h) (listed s g (lowersOf s g d))
+  pub numbers-are : (h : Shape) {u l r : List ℕ} {m : ℕ} → u ≡ listedByExit s g (uppersOf s g d)
+      → l ≡ ifStanding (hasLowers h) (listedByExit s g (lowersOf s g d))
       → r ≡ ifStanding (hasMeans h) (listedRows s g (meansOf s g h d))
       → m ≡ cond (hasLowers h) (marginOf b d) 0
       → _≡_ {A = Numbers} (record { uppers = u; lowers = l; means = r; margin = m }) (numbersHeld b h d)
   unfolding numbersHeld
-  numbers-are h e values lowers means margin = rw (← states, ← symbols, uppers-listed s g d e values, lowers, means, margin)
+  numbers-are h uppers lowers means margin = rw (← states, ← symbols, uppers, lowers, means, margin)

@@ -10,13 +10,14 @@ use Rattle.model.specs.Format.{mostEntries}
 use Rattle.delivery.specs.Format.{recordBytes}
 use Rattle.delivery.specs.Shapes.{meansFrom}
 use Rattle.walks.specs.Order.{entriesIn, rowsIn, rowAt}
+use Rattle.walks.proofs.Exits.{exit-ordered}
 use Rattle.delivery.specs.Numbers.{uppersOf, lowersOf, meansOf}
 use Rattle.held.specs.Contracts.{Values}
 use Rattle.delivery.proofs.Values.{rest-value}
 use Rattle.certificate.proofs.Rest.{rest-lowers}
 use Rattle.certificate.proofs.Steps.{part-from}
-use Rattle.held.specs.Held.{listed, listedRows, ifStanding}
-use Rattle.held.proofs.Listed.{listed-is, rows-is, values-same, values-rows}
+use Rattle.held.specs.Held.{listedByExit, listedRows, ifStanding}
+use Rattle.held.proofs.Listed.{listed-cong, rows-is, values-rows}
 
 -- ---- the part of a file from record n on
 
@@ -28,16 +29,11 @@ part-holds d {n} start e fits = rw (part-from d {n = n} refl, length-drop (recor
 -- ---- the numbers of each block, by how many records the code takes
 
 module _ (s g : ℕ) (d : List ℕ) {l : List ℕ} {n : ℕ} where
-  pub uppers-listed : n ≡ entriesIn s g → Values d n l → l ≡ listed s g (uppersOf s g d)
-  uppers-listed e values =
-      let whole : Values d (entriesIn s g) l = rw e at values in
-      listed-is s g (uppersOf s g d) (whole .size) (values-same s g whole) (whole .none)
-
-  pub lowers-listed : n ≡ entriesIn s g → Values (take (length d - recordBytes * n) (drop (recordBytes * n) d)) n l → l ≡ listed s g (lowersOf s g d)
-  lowers-listed e values =
-      let whole : Values (drop (recordBytes * entriesIn s g) d) (entriesIn s g) l = rw (part-from d {n = n} refl, e) at values in
-      listed-is s g (lowersOf s g d) (whole .size)
-      (λ p z q hp hz hq. values-same s g whole p z q hp hz hq ∙ rest-lowers s g d p z q hp hz hq) (whole .none)
+  pub lowers-listed : entriesIn s g ≤ mostEntries → n ≡ entriesIn s g
+      → l ≡ listedByExit s g (uppersOf s g (take (length d - recordBytes * n) (drop (recordBytes * n) d))) → l ≡ listedByExit s g (lowersOf s g d)
+  lowers-listed few e values =
+      let whole : l ≡ listedByExit s g (uppersOf s g (drop (recordBytes * entriesIn s g) d)) = rw (part-from d {n = n} refl, e) at values in
+      whole ∙ listed-cong (exit-ordered s g) _ (lowersOf s g d) few (rest-lowers s g d)
 
   pub means-listed : (h : Shape) {from : ℕ} → from ≡ meansFrom s g h → n ≡ rowsIn s g
       → Values (take (length d - recordBytes * from) (drop (recordBytes * from) d)) n l → l ≡ listedRows s g (meansOf s g h d)

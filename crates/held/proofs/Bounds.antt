@@ -9,7 +9,7 @@ use Rattle.walks.proofs.Exactly.{lt-exactly, both}
 use Rattle.ppda.specs.Equations.{entries, rows}
 use Rattle.model.specs.declared.sizes.Sizes.{Sizes}
 use Rattle.model.specs.Contracts.{Narrow}
-use Rattle.held.specs.Places.{hasRow, hasEntry, rowValue, entryValue}
+use Rattle.held.specs.Places.{hasRow, hasEntry, rowValue, entryValue, entriesByExit, exitValue}
 
 pub row-exactly : (s g p z : ℕ) → (hasRow s g p z ≡ true) ↔ ((p < s) × (z < g))
 unfolding hasRow
@@ -35,6 +35,14 @@ pub entry-there : (s g : ℕ) (l : List ℕ) (p z q : ℕ) → hasEntry s g p z 
 unfolding entryValue
 entry-there s g l p z q e = rw e
 
+pub no-exit : (s g : ℕ) (l : List ℕ) (p z q : ℕ) → hasEntry s g p z q ≡ false → exitValue s g l p z q ≡ 0
+unfolding exitValue
+no-exit s g l p z q e = rw e
+
+pub exit-there : (s g : ℕ) (l : List ℕ) (p z q : ℕ) → hasEntry s g p z q ≡ true → exitValue s g l p z q ≡ entriesByExit s g l p z q
+unfolding exitValue
+exit-there s g l p z q e = rw e
+
 -- ---- the same by the sizes that are held
 
 module _ {s g : ℕ} {n : Sizes} (states : n .states ≡ s) (symbols : n .symbols ≡ g) where
@@ -52,3 +60,6 @@ module _ {s g : ℕ} {n : Sizes} (states : n .states ≡ s) (symbols : n .symbol
 
   pub entry-value-held : (l : List ℕ) (p z q : ℕ) {v : ℕ} → v ≡ entryValue (n .states) (n .symbols) l p z q → v ≡ entryValue s g l p z q
   entry-value-held l p z q e = rw (states, symbols) at e
+
+  pub exit-value-held : (l : List ℕ) (p z q : ℕ) {v : ℕ} → v ≡ exitValue (n .states) (n .symbols) l p z q → v ≡ exitValue s g l p z q
+  exit-value-held l p z q e = rw (states, symbols) at e

@@ -1,9 +1,10 @@
 -- Lists as the register holds them: a list of h 0, h 1, … is what its length and its numbers say, so a list that the code fills is the
--- definition's, and reading it gives the vector, the rows or the file back.
+-- definition's, and reading it gives the vector, the rows or the file back, in the order of files and by exit.
 use Prim.Native.Nat.{ℕ, zero, suc, _+_, _*_, _/_, _%_, _≤_, _<_}
 use native.Mathlib.Omega.{arith}
 use mathlib.Core.Bool.{Bool, true, false, cond}
 use mathlib.Core.List.{List, []}
+use mathlib.Core.Logic.{_⊎_, inl, inr}
 use mathlib.Core.Path.{_≡_, refl, sym, ap, subst, _∙_}
 use lib.Dec.{eqb, ltb}
 use lib.IntN.{ℤ}
@@ -12,11 +13,13 @@ use lib.Seq.{take-all, ext-getD, getD-take, getD-set-same, getD-set-other, lengt
 use borrow.Author.Tests.{ltb-true, ltb-false, lt-ltb, le-ltb, eqb-true, eqb-false}
 use Rattle.outcome.specs.declared.Reason.{Reason}
 use Rattle.outcome.specs.declared.Outcome.the-variants.{Refused}
-use Rattle.walks.specs.Order.{entriesIn, rowAt, entryAt}
+use Rattle.walks.specs.Order.{entriesIn, rowAt, entryIn, entryAt, exitIn, byExit}
 use Rattle.ppda.specs.Equations.{Vector, RowVector, entries, rows, SameRows, Same}
 use Rattle.ppda.specs.Live.{alive}
 use Rattle.walks.proofs.Lists.{getD-zeros, length-listTo, getD-listTo, listTo-ext}
-use Rattle.walks.proofs.Places.{row-at, row-of, row-below, entry-below}
+use Rattle.walks.proofs.Numbers.{less-or-not}
+use Rattle.walks.proofs.Places.{row-at, row-of, row-split, row-below, entry-below}
+use Rattle.walks.proofs.Exits.{exit-rows, exit-at, Ordered, file-ordered, exit-ordered, at-places}
 use Rattle.model.specs.Format.{mostEntries}
 use Rattle.model.specs.Records.{statesOf, symbolsOf}
 use Rattle.model.specs.Rules.{rulesOf}
@@ -29,7 +32,8 @@ use Rattle.delivery.specs.Contracts.{rowsOfBlock}
 use Rattle.rows.proofs.Ranges.{set-more}
 use Rattle.live.specs.Contracts.{bitOf, exitMarks, ExitsOf}
 use Rattle.verdict.specs.Marks.{liveMark}
-use Rattle.held.specs.Held.{padded, listed, listedRows, filled}
+use Rattle.held.specs.Held.{padded, listed, listedByExit, listedRows, filled}
+use Rattle.held.specs.Places.{entriesByExit}
 use Rattle.held.specs.Contracts.{Values, Marks}
 
 -- ---- numbers in the first places
@@ -66,56 +70,74 @@ pub padded-cong : (h k : ℕ → ℕ) (n : ℕ) → n ≤ mostEntries → ((e : 
 padded-cong h k n most same =
     padded-is (length-padded h n) (λ e lt. padded-at h n e lt most ∙ same e lt) (padded-past h n)
 
--- ---- a vector and rows in file order
+-- The first n numbers, then one more.
+pub padded-none : (h : ℕ → ℕ) (n : ℕ) → n ≡ mostEntries → replicate n 0 ≡ padded h 0
+padded-none h n e = padded-is (length-replicate {A = ℕ} n 0 ∙ e) (λ i lt. absurd (omega arith)) (λ i le. getD-zeros n i)
+
+pub padded-step : (h : ℕ → ℕ) (n : ℕ) {l : List ℕ} {v : ℕ} → l ≡ padded h n → n < mostEntries → v ≡ h n → set l n v ≡ padded h (n + 1)
+padded-step h n {l} {v} is room e =
+    rw (is, e)
+    (padded-is (length-set (padded h n) n (h n) ∙ length-padded h n) (λ i lt. go i lt (eqb i n) refl)
+    (λ i le. getD-set-other (padded h n) n i (h n) 0 (λ q. omega arith) ∙ padded-past h n i (omega arith)))
+  where
+    go : (i : ℕ) → i < n + 1 → (t : Bool) → eqb i n ≡ t → getD (set (padded h n) n (h n)) i 0 ≡ h i
+    go i lt true q =
+        let same : i ≡ n = eqb-true i n q in
+        rw same (getD-set-same (padded h n) n (h n) 0 (rw (length-padded h n) room))
+    go i lt false q =
+        let apart : i ≡ n → ⊥ = eqb-false i n q in
+        getD-set-other (padded h n) n i (h n) 0 apart ∙ padded-at h n i (omega arith) (omega arith)
+
+pub padded-end : (h : ℕ → ℕ) {n m : ℕ} {l : List ℕ} → l ≡ padded h n → n ≡ m → l ≡ padded h m
+padded-end h is e = is ∙ ap (padded h) e
+
+-- ---- a vector in an order of entries: in file order, or by exit
+
+module _ {s g : ℕ} {place : ℕ → ℕ → ℕ → ℕ} {by : Vector → ℕ → ℕ} (o : Ordered s g place by) (v : Vector) where
+  -- A list with the numbers of v at the entries' places, and 0 from there on, is v as the register holds it.
+  pub listed-is : {l : List ℕ} → length l ≡ mostEntries → Same s g (λ p z q. getD l (place p z q) 0) v → ((e : ℕ) → s * g * s ≤ e → getD l e 0 ≡ 0)
+      → l ≡ padded (by v) (s * g * s)
+  listed-is {l} size same none =
+      padded-is size
+      (at-places o (λ e. getD l e 0 ≡ by v e) (λ p z q hp hz hq. same p z q hp hz hq ∙ sym (o .stands v p z q hp hz hq)))
+      none
+
+  -- Vectors with the same numbers at the entries are held as the same list.
+  pub listed-cong : (u : Vector) → s * g * s ≤ mostEntries → Same s g v u → padded (by v) (s * g * s) ≡ padded (by u) (s * g * s)
+  listed-cong u most same =
+      padded-cong (by v) (by u) (s * g * s) most
+      (at-places o (λ e. by v e ≡ by u e)
+      (λ p z q hp hz hq. o .stands v p z q hp hz hq ∙ same p z q hp hz hq ∙ sym (o .stands u p z q hp hz hq)))
+
+  -- What no number of the vector is above, no number of the list is.
+  pub listed-most : (a e : ℕ) → s * g * s ≤ mostEntries → ((p z q : ℕ) → p < s → z < g → q < s → v p z q ≤ a) → getD (padded (by v) (s * g * s)) e 0 ≤ a
+  listed-most a e most range = go (less-or-not e (s * g * s))
+    where
+      at : (e : ℕ) → e < s * g * s → by v e ≤ a
+      at = at-places o (λ e. by v e ≤ a) (λ p z q hp hz hq. rw (o .stands v p z q hp hz hq) (range p z q hp hz hq))
+
+      go : (e < s * g * s) ⊎ (s * g * s ≤ e) → getD (padded (by v) (s * g * s)) e 0 ≤ a
+      go (inl lt) = rw (padded-at (by v) (s * g * s) e lt most) (at e lt)
+      go (inr le) = rw (padded-past (by v) (s * g * s) e le) (omega arith)
+
+  pub listed-at : (p z q : ℕ) → p < s → z < g → q < s → s * g * s ≤ mostEntries → getD (padded (by v) (s * g * s)) (place p z q) 0 ≡ v p z q
+  listed-at p z q hp hz hq most =
+      padded-at (by v) (s * g * s) (place p z q) (o .below p z q hp hz hq) most ∙ o .stands v p z q hp hz hq
+
+-- Request A.6: for any vector, the two ways of holding it give the same number for every entry.
+pub held-either-way : (s g : ℕ) (v : Vector) → s * g * s ≤ mostEntries → Same s g (entriesByExit s g (listedByExit s g v)) (entries s g (listed s g v))
+held-either-way s g v most p z q hp hz hq =
+    listed-at (exit-ordered s g) v p z q hp hz hq most ∙ sym (listed-at (file-ordered s g) v p z q hp hz hq most)
+
+pub live-listed : (s g : ℕ) (v : Vector) {l : List ℕ} → Marks s g v l → l ≡ listed s g v
+live-listed s g v marks = listed-is (file-ordered s g) v (marks .size) (marks .marks) (marks .none)
+
+-- ---- rows in file order
 
 -- Nothing lies below a product with 0.
 some-of-product : (n m k : ℕ) → k < n * m → 0 < m
 some-of-product n zero k lt = absurd (omega arith)
 some-of-product n (suc m) k lt = omega arith
-
--- Every number below V is that of an entry.
-entry-of : (s g e : ℕ) → e < s * g * s → (e / s / g < s) × (e / s % g < g) × (e % s < s) × ((e / s / g * g + e / s % g) * s + e % s ≡ e)
-entry-of s g e lt =
-    let (above, last, whole) = row-of (s * g) s e (some-of-product (s * g) s e lt) lt in
-    let (first, second, row) = row-of s g (e / s) (some-of-product s g (e / s) above) above in
-    (first, second, last, rw row whole)
-
-module _ (s g : ℕ) (v : Vector) where
-  -- A list with the numbers of v at the entries, and 0 from there on, is v as the register holds it.
-  pub listed-is : {l : List ℕ} → length l ≡ mostEntries → Same s g (entries s g l) v → ((e : ℕ) → s * g * s ≤ e → getD l e 0 ≡ 0)
-      → l ≡ listed s g v
-  listed-is {l} size same none =
-      padded-is size
-      (λ e lt.
-      let (first, second, last, place) = entry-of s g e lt in
-      ap (λ k. getD l k 0) (sym place) ∙ same (e / s / g) (e / s % g) (e % s) first second last)
-      none
-
-  -- Vectors with the same numbers at the entries are held as the same list.
-  pub listed-cong : (u : Vector) → s * g * s ≤ mostEntries → Same s g v u → listed s g v ≡ listed s g u
-  listed-cong u most same =
-      padded-cong _ _ (s * g * s) most
-      (λ e lt. let (first, second, last, place) = entry-of s g e lt in same (e / s / g) (e / s % g) (e % s) first second last)
-
-  -- What no number of the vector is above, no number of the list is.
-  pub listed-most : (a e : ℕ) → s * g * s ≤ mostEntries → ((p z q : ℕ) → p < s → z < g → q < s → v p z q ≤ a) → getD (listed s g v) e 0 ≤ a
-  listed-most a e most range = go (ltb e (s * g * s)) refl
-    where
-      go : (t : Bool) → ltb e (s * g * s) ≡ t → getD (listed s g v) e 0 ≤ a
-      go true q =
-          let lt : e < s * g * s = ltb-true e (s * g * s) q in
-          let (first, second, last, place) = entry-of s g e lt in
-          rw (padded-at _ (s * g * s) e lt most) (range (e / s / g) (e / s % g) (e % s) first second last)
-      go false q = rw (padded-past _ (s * g * s) e (ltb-false e (s * g * s) q)) (omega arith)
-
-  pub live-listed : {l : List ℕ} → Marks s g v l → l ≡ listed s g v
-  live-listed marks = listed-is (marks .size) (marks .marks) (marks .none)
-
-  pub listed-at : (p z q : ℕ) → p < s → z < g → q < s → s * g * s ≤ mostEntries → entries s g (listed s g v) p z q ≡ v p z q
-  listed-at p z q hp hz hq most =
-      let (row, last) = row-at s (p * g + z) q hq in
-      let (first, second) = row-at g p z hz in
-      padded-at _ (s * g * s) ((p * g + z) * s + q) (entry-below s g p z q hp hz hq) most ∙ rw (row, last, first, second)
 
 module _ (s g : ℕ) (r : RowVector) where
   pub rows-is : {l : List ℕ} → length l ≡ mostEntries → SameRows s g (rows g l) r → ((k : ℕ) → s * g ≤ k → getD l k 0 ≡ 0)
@@ -206,12 +228,18 @@ values-step {d} {n} {l} v before room e =
 pub values-end : {d : List ℕ} {n m : ℕ} {l : List ℕ} → Values d n l → n ≡ m → Values d m l
 values-end {d} {l = l} v e = subst (λ k. Values d k l) e v
 
-pub values-same : (s g : ℕ) {d l : List ℕ} → Values d (s * g * s) l → Same s g (entries s g l) (uppersOf s g d)
-unfolding uppersOf
-values-same s g values p z q hp hz hq = values .value (entryAt s g p z q) (entry-below s g p z q hp hz hq)
-
 pub values-rows : (s g : ℕ) {d l : List ℕ} → Values d (s * g) l → SameRows s g (rows g l) (rowsOfBlock g d)
 values-rows s g values p z hp hz = values .value (rowAt g p z) (row-below s g p z hp hz)
+
+-- ---- the values of the entries by exit
+
+-- The number at the place of row k and exit q is the value of the record there.
+pub exit-value : (s g k q : ℕ) (d : List ℕ) → k < s * g → valueAt d (entryIn s k q) ≡ byExit s g (uppersOf s g d) (exitIn s g k q)
+unfolding uppersOf
+exit-value s g k q d hk =
+    let (p, z, hp, hz, here) = row-split s g k hk in
+    rw (here, ← exit-rows s g p z q)
+    (let (state, symbol, exit) = exit-at s g p z q hp hz in rw (state, symbol, exit))
 
 -- ---- the marks by entries
 

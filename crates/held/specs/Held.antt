@@ -13,7 +13,7 @@ use Rattle.delivery.specs.declared.shape.Shape.the-variants.{U}
 use Rattle.delivery.specs.declared.shape.Shaped as Shapes
 use Rattle.delivery.specs.declared.shape.Shaped.the-variants as Shaped
 use Rattle.delivery.specs.Shapes.{hasLowers, hasMeans, sameShape}
-use Rattle.walks.specs.Order.{entriesIn, rowsIn, byRow, byEntry}
+use Rattle.walks.specs.Order.{entriesIn, rowsIn, byRow, byEntry, byExit}
 use Rattle.delivery.specs.Numbers.{uppersOf, lowersOf, meansOf}
 use Rattle.verdict.specs.Marks.{liveMark}
 use Rattle.certificate.specs.Margin.{marginOf}
@@ -26,9 +26,13 @@ use Rattle.held.specs.declared.Numbers.{Numbers}
 unfoldable pub padded : (ℕ → ℕ) → ℕ → List ℕ
 padded h n = listTo (λ e. cond (ltb e n) (h e) 0) mostEntries
 
--- A vector as the register holds it: its numbers in file order.
+-- A vector in the order of files, as the register holds live marks.
 abbrev pub listed : ℕ → ℕ → Vector → List ℕ
 listed s g v = padded (byEntry s g v) (entriesIn s g)
+
+-- A vector by exit, in the order (q, p, z), as the register holds uppers and lowers (request A.6).
+abbrev pub listedByExit : ℕ → ℕ → Vector → List ℕ
+listedByExit s g v = padded (byExit s g v) (entriesIn s g)
 
 -- Numbers of rows as the register holds them.
 abbrev pub listedRows : ℕ → ℕ → RowVector → List ℕ
@@ -60,12 +64,12 @@ modelHeld b =
 abbrev pub ifStanding : Bool → List ℕ → List ℕ
 ifStanding t l = cond t l (replicate mostEntries 0)
 
--- The numbers of the delivery d, of shape h, for the model b.
+-- The numbers of the delivery d, of shape h, for the model b: uppers and lowers by exit, mean steps in the order of files.
 unfoldable pub numbersHeld : List ℕ → Shape → List ℕ → Numbers
 numbersHeld b h d =
     record {
-      uppers = listed (statesOf b) (symbolsOf b) (uppersOf (statesOf b) (symbolsOf b) d);
-      lowers = ifStanding (hasLowers h) (listed (statesOf b) (symbolsOf b) (lowersOf (statesOf b) (symbolsOf b) d));
+      uppers = listedByExit (statesOf b) (symbolsOf b) (uppersOf (statesOf b) (symbolsOf b) d);
+      lowers = ifStanding (hasLowers h) (listedByExit (statesOf b) (symbolsOf b) (lowersOf (statesOf b) (symbolsOf b) d));
       means = ifStanding (hasMeans h) (listedRows (statesOf b) (symbolsOf b) (meansOf (statesOf b) (symbolsOf b) h d));
       margin = cond (hasLowers h) (marginOf b d) 0;
     }

@@ -4,6 +4,7 @@ use super::HeldModel;
 use super::Numbers;
 use super::lists::live_marks;
 use super::lists::values;
+use super::lists::values_by_exit;
 use certificate::margins::margin_with_lowers;
 use delivery::format::RECORD_BYTES;
 use delivery::shape::Shape;
@@ -29,7 +30,7 @@ ghost use Rattle.delivery.specs.Numbers.{lowersOf, meansOf};
 ghost use Rattle.delivery.specs.Contracts.{ShapedFile};
 ghost use Rattle.certificate.specs.Margin.{marginOf};
 ghost use Rattle.certificate.specs.Contracts.{AcceptedFile};
-ghost use Rattle.held.specs.Held.{filled, modelHeld, numbersHeld, listed, listedRows, ifStanding, shapeAs};
+ghost use Rattle.held.specs.Held.{filled, modelHeld, numbersHeld, listedByExit, listedRows, ifStanding, shapeAs};
 
 // The bytes of a file, in the first places.
 fn copied(file: &[u8]) -> [u8; MOST_BYTES]
@@ -74,17 +75,17 @@ pub fn shape_for(delivery: &[u8], n: Sizes) -> Shape
     }
 }
 
-// The lowers of a delivery of this shape, or zeros.
+// The lowers of a delivery of this shape, by exit, or zeros.
 pub fn lowers_of(delivery: &[u8], n: Sizes, shape: Shape) -> [u32; MOST_ENTRIES]
     requires { ⌜ ShapedFile n shape (now delivery) ⌝ }
-    ensures { λ r. ⌜ r ≡ ifStanding (hasLowers shape) (listed (n .states) (n .symbols) (lowersOf (n .states) (n .symbols) (now (delivery .entry)))) ⌝ }
+    ensures { λ r. ⌜ r ≡ ifStanding (hasLowers shape) (listedByExit (n .states) (n .symbols) (lowersOf (n .states) (n .symbols) (now (delivery .entry)))) ⌝ }
 {
     if !has_lowers(shape) {
         return [0u32; MOST_ENTRIES];
     }
     let v = n.entries();
     let rest = &delivery[RECORD_BYTES * v..];
-    values(rest, v)
+    values_by_exit(rest, n)
 }
 
 // The mean steps of a delivery of this shape, or zeros.
@@ -118,7 +119,7 @@ pub fn numbers_of(model: &[u8], delivery: &[u8], n: Sizes, shape: Shape) -> Numb
     ensures { λ r. ⌜ r ≡ numbersHeld (now (model .entry)) shape (now (delivery .entry)) ⌝ }
 {
     Numbers {
-        uppers: values(delivery, n.entries()),
+        uppers: values_by_exit(delivery, n),
         lowers: lowers_of(delivery, n, shape),
         means: means_of(delivery, n, shape),
         margin: margin_or_zero(model, delivery, n, shape),

@@ -6,7 +6,7 @@ use model::format::MOST_BYTES;
 use model::format::MOST_ENTRIES;
 
 pub mod filing; // filing.rt: what an accepted file becomes
-pub mod lists; // lists.rt: lists of numbers in the order of files
+pub mod lists; // lists.rt: lists of numbers, in the order of files or by exit
 pub mod places; // places.rt: a held number by its entry or its row
 
 ghost use mathlib.Core.Path.{_≡_};
@@ -28,7 +28,7 @@ pub enum HeldDelivery {
     Of(Shape),
 }
 
-// The numbers of a held delivery in file order, and its margin: 0 where there are none.
+// The numbers of a held delivery, and its margin: 0 where there are none. Uppers and lowers stand by exit (request A.6), mean steps in the order of files.
 pub struct Numbers {
     pub uppers: [u32; MOST_ENTRIES],
     pub lowers: [u32; MOST_ENTRIES],

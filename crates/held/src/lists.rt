@@ -1,4 +1,4 @@
-// Lists of numbers in the order of files, with a place for each entry that there may be, and 0 from the last number on.
+// Lists of numbers, in the order of files or by exit, with a place for each entry that there may be, and 0 from the last number on.
 
 use delivery::record::value_at;
 use live::exits::mark;
@@ -13,15 +13,17 @@ use rows::find_starts;
 ghost use mathlib.Core.Path.{_≡_};
 ghost use mathlib.Core.Bool.{true};
 ghost use mathlib.Core.Logic.{_↔_};
-ghost use Prim.Native.Nat.{ℕ, _^_, _≤_, _<_};
+ghost use Prim.Native.Nat.{ℕ, _+_, _^_, _≤_, _<_};
 ghost use lib.ListN.{getD};
 ghost use Rattle.model.specs.Format.{mostEntries};
 ghost use Rattle.model.specs.Records.{statesOf, symbolsOf};
 ghost use Rattle.model.specs.Contracts.{Fits};
 ghost use Rattle.delivery.specs.Contracts.{HasRecords};
+ghost use Rattle.delivery.specs.Numbers.{uppersOf};
 ghost use Rattle.live.specs.Contracts.{exitMarks};
 ghost use Rattle.verdict.specs.Marks.{liveMark};
-ghost use Rattle.held.specs.Contracts.{Values, Marks};
+ghost use Rattle.held.specs.Held.{listedByExit};
+ghost use Rattle.held.specs.Contracts.{Values, Marks, HasEntries, exitsTo};
 
 // A listed number as a wider one.
 pub(crate) fn wide(n: u32) -> u64
@@ -57,6 +59,34 @@ pub fn values(block: &[u8], n: usize) -> [u32; MOST_ENTRIES]
         e += 1;
     }
     values
+}
+
+// Puts the values of the entries with exit q side by side, behind those of the exits before it.
+fn put_exit(block: &[u8], n: Sizes, q: usize, list: &mut [u32; MOST_ENTRIES])
+    requires { ⌜ HasEntries n (now block) × (q < n .states) × (now list ≡ exitsTo n (now block) q) ⌝ }
+    ensures { λ _. ⌜ now (list .exit) ≡ exitsTo n (now (block .entry)) (q + 1) ⌝ }
+{
+    let rows = n.rows();
+    let mut row = 0;
+    while row < rows {
+        list[n.exit_in(row, q)] = value_at(block, n.entry_in(row, q)) as u32;
+        row += 1;
+    }
+}
+
+// The values of a block with a record for each entry, by exit (request A.6).
+pub fn values_by_exit(block: &[u8], n: Sizes) -> [u32; MOST_ENTRIES]
+    requires { ⌜ HasEntries n (now block) ⌝ }
+    ensures { λ r. ⌜ r ≡ listedByExit (n .states) (n .symbols) (uppersOf (n .states) (n .symbols) (now (block .entry))) ⌝ }
+{
+    let s = n.states;
+    let mut list = [0u32; MOST_ENTRIES];
+    let mut q = 0;
+    while q < s {
+        put_exit(block, n, q, &mut list);
+        q += 1;
+    }
+    list
 }
 
 // Marks that are kept by rows, by entry number.

@@ -6,7 +6,7 @@ use model::sizes::Sizes;
 ghost use mathlib.Core.Path.{_≡_};
 ghost use lib.ListN.{getD};
 ghost use Rattle.model.specs.Contracts.{Narrow};
-ghost use Rattle.held.specs.Places.{hasRow, hasEntry, entryValue, rowValue};
+ghost use Rattle.held.specs.Places.{hasRow, hasEntry, entryValue, rowValue, exitValue};
 
 // The sizes that are held, which are narrow whether they fit or not.
 pub fn sizes_held(states: u8, symbols: u16) -> Sizes
@@ -51,7 +51,7 @@ pub fn row_value(list: &[u32; MOST_ENTRIES], n: Sizes, p: usize, z: usize) -> u6
     number_at(list, n.row(p, z))
 }
 
-// The held number of an entry: 0 where there is no such entry.
+// The held number of an entry in a list in the order of files: 0 where there is no such entry.
 pub fn entry_value(list: &[u32; MOST_ENTRIES], n: Sizes, p: usize, z: usize, q: usize) -> u64
     requires { ⌜ Narrow (n .states) (n .symbols) ⌝ }
     ensures { λ r. ⌜ r ≡ entryValue (n .states) (n .symbols) (now (list .entry)) p z q ⌝ }
@@ -60,4 +60,15 @@ pub fn entry_value(list: &[u32; MOST_ENTRIES], n: Sizes, p: usize, z: usize, q: 
         return 0;
     }
     number_at(list, n.entry(p, z, q))
+}
+
+// The same in a list by exit.
+pub fn exit_value(list: &[u32; MOST_ENTRIES], n: Sizes, p: usize, z: usize, q: usize) -> u64
+    requires { ⌜ Narrow (n .states) (n .symbols) ⌝ }
+    ensures { λ r. ⌜ r ≡ exitValue (n .states) (n .symbols) (now (list .entry)) p z q ⌝ }
+{
+    if !has_entry(n, p, z, q) {
+        return 0;
+    }
+    number_at(list, n.exit_place(p, z, q))
 }

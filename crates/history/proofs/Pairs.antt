@@ -1,5 +1,5 @@
 -- A register that holds a pair of accepted files replies to each call as the plain pair does, and holds the next pair after it.
-use Prim.Native.Nat.{ℕ}
+use Prim.Native.Nat.{ℕ, _≤_}
 use native.Mathlib.Omega.{arith}
 use mathlib.Core.Bool.{Bool, true, false, cond, _&&_}
 use mathlib.Core.List.{List}
@@ -9,10 +9,12 @@ use lib.Dec.{ltb, leb}
 use lib.ListN.{length}
 use Rattle.outcome.specs.declared.Outcome.{Outcome}
 use Rattle.outcome.specs.declared.Outcome.the-variants.{Accepted, Refused}
+use Rattle.walks.specs.Order.{entriesIn}
 use Rattle.walks.proofs.Exactly.{lt-exactly, le-exactly, both}
+use Rattle.walks.proofs.Exits.{file-ordered, exit-ordered}
 use Rattle.ppda.specs.Equations.{Vector, RowVector, entries, rows, SameRows, Same}
 use Rattle.model.specs.Records.{statesOf, symbolsOf}
-use Rattle.model.specs.Format.{mostBytes}
+use Rattle.model.specs.Format.{mostBytes, mostEntries}
 use Rattle.wellformed.specs.Verdict.{modelVerdict}
 use Rattle.model.proofs.Accepted.{sized-fits}
 use Rattle.wellformed.proofs.Accepted.{model-accepted, sized-of}
@@ -26,8 +28,8 @@ use Rattle.certificate.specs.Margin.{marginOf}
 use Rattle.verdict.specs.Verdict.{verdict}
 use Rattle.verdict.proofs.Accepted.{delivery-accepted}
 use Rattle.calls.specs.declared.Mark.the-variants.{Known, New}
-use Rattle.held.specs.Held.{listed, listedRows, noModel, modelHeld, numbersHeld, holdsModel}
-use Rattle.held.specs.Places.{hasRow, hasEntry, rowValue, entryValue}
+use Rattle.held.specs.Held.{listed, listedByExit, listedRows, ifStanding, noModel, modelHeld, numbersHeld, holdsModel}
+use Rattle.held.specs.Places.{hasRow, hasEntry, entriesByExit, rowValue, entryValue, exitValue}
 use Rattle.held.proofs.Listed.{listed-at, rows-at, filled-back}
 use Rattle.register.specs.Filing as Filing
 use Rattle.filing.specs.Outcomes.{modelOutcome, fileOf, deliveryOutcome, mergeOutcome}
@@ -68,28 +70,29 @@ Right none y = y ≡ none
 Right (some b) none = modelVerdict b ≡ Accepted
 Right (some b) (some d) = verdict b d ≡ Accepted
 
--- ---- a number asked of a list in file order: 44, then 43, then the number
+-- ---- a number asked of a list: 44, then 43, then the number
 
-module _ (s g : ℕ) (l : List ℕ) (block : Bool) where
-  entry-reply : (v : Vector) → (block ≡ true → Same s g (entries s g l) v) → (p z q : ℕ)
-      → answerReply (answered true true (hasEntry s g p z q) block (entryValue s g l p z q))
+module _ (s g : ℕ) (block : Bool) where
+  -- By what is read of the list for an entry, in whatever order it stands.
+  entry-reply : (read v : Vector) → (block ≡ true → Same s g read v) → (p z q : ℕ)
+      → answerReply (answered true true (hasEntry s g p z q) block (cond (hasEntry s g p z q) (read p z q) 0))
       ≡ cond ((ltb p s && ltb z g) && ltb q s) (cond block (value (v p z q)) (refusal 43)) (refusal 44)
-  unfolding hasEntry hasRow entryValue
-  entry-reply v same p z q = go ((ltb p s && ltb z g) && ltb q s) refl block refl
+  unfolding hasEntry hasRow
+  entry-reply read v same p z q = go ((ltb p s && ltb z g) && ltb q s) refl block refl
     where
       go : (t : Bool) → ((ltb p s && ltb z g) && ltb q s) ≡ t → (k : Bool) → block ≡ k
-          → answerReply (answered true true t k (cond t (entries s g l p z q) 0)) ≡ cond t (cond k (value (v p z q)) (refusal 43)) (refusal 44)
+          → answerReply (answered true true t k (cond t (read p z q) 0)) ≡ cond t (cond k (value (v p z q)) (refusal 43)) (refusal 44)
       go true e true has =
           let ((hp, hz), hq) = both _ _ (both _ _ (lt-exactly p s) (lt-exactly z g)) (lt-exactly q s) .0 e in
           ap value (same has p z q hp hz hq)
       go true e false has = refl
       go false e k has = refl
 
-  row-reply : (v : RowVector) → (block ≡ true → SameRows s g (rows g l) v) → (p z : ℕ)
+  row-reply : (l : List ℕ) (v : RowVector) → (block ≡ true → SameRows s g (rows g l) v) → (p z : ℕ)
       → answerReply (answered true true (hasRow s g p z) block (rowValue s g l p z))
       ≡ cond (ltb p s && ltb z g) (cond block (value (v p z)) (refusal 43)) (refusal 44)
   unfolding hasRow rowValue
-  row-reply v same p z = go (ltb p s && ltb z g) refl block refl
+  row-reply l v same p z = go (ltb p s && ltb z g) refl block refl
     where
       go : (t : Bool) → (ltb p s && ltb z g) ≡ t → (k : Bool) → block ≡ k
           → answerReply (answered true true t k (cond t (rows g l p z) 0)) ≡ cond t (cond k (value (v p z)) (refusal 43)) (refusal 44)
@@ -105,14 +108,20 @@ module _ (b : List ℕ) (is : modelVerdict b ≡ Accepted) where
   size : Sized b (statesOf b) (symbolsOf b)
   size = sized-of is refl refl
 
-  held-length : holdsModel (length b) ≡ true
+  pub held-length : holdsModel (length b) ≡ true
   unfolding holdsModel
   held-length =
       let records = size .file .records in
       both _ _ (lt-exactly 0 (length b)) (le-exactly (length b) mostBytes) .1 (omega (arith, records .some, records .most, records .whole))
 
+  pub few-entries : entriesIn (statesOf b) (symbolsOf b) ≤ mostEntries
+  few-entries = sized-fits size .few-entries
+
   listed-same : (v : Vector) → Same (statesOf b) (symbolsOf b) (entries (statesOf b) (symbolsOf b) (listed (statesOf b) (symbolsOf b) v)) v
-  listed-same v p z q hp hz hq = listed-at (statesOf b) (symbolsOf b) v p z q hp hz hq (sized-fits size .few-entries)
+  listed-same v p z q hp hz hq = listed-at (file-ordered (statesOf b) (symbolsOf b)) v p z q hp hz hq few-entries
+
+  exits-same : (v : Vector) → Same (statesOf b) (symbolsOf b) (entriesByExit (statesOf b) (symbolsOf b) (listedByExit (statesOf b) (symbolsOf b) v)) v
+  exits-same v p z q hp hz hq = listed-at (exit-ordered (statesOf b) (symbolsOf b)) v p z q hp hz hq few-entries
 
   rows-same : (v : RowVector) → SameRows (statesOf b) (symbolsOf b) (rows (symbolsOf b) (listedRows (statesOf b) (symbolsOf b) v)) v
   rows-same v p z hp hz = rows-at (statesOf b) (symbolsOf b) v p z hp hz (omega (arith, sized-fits size .few-rows))
@@ -135,22 +144,22 @@ module _ (b : List ℕ) (y : Option (List ℕ)) (right : Right (some b) y) where
   unfolding modelHeld
   model-held = rw (model-of-pair b y) (held-length b (model-right b y right))
 
-  file-held : fileOf (holding (some b) y .model) ≡ b
+  pub file-held : fileOf (holding (some b) y .model) ≡ b
   unfolding fileOf modelHeld
   file-held =
       let records = size b (model-right b y right) .file .records in
       rw (model-of-pair b y) (filled-back mostBytes b (omega (arith, records .most, records .whole)))
 
-  delivery-by-verdict : (d : List ℕ) → Filing.fileDelivery (holding (some b) y) d ≡ deliveryBy (verdict b d) (holding (some b) y) b d
+  pub delivery-by-verdict : (d : List ℕ) → Filing.fileDelivery (holding (some b) y) d ≡ deliveryBy (verdict b d) (holding (some b) y) b d
   unfolding Filing.fileDelivery deliveryOutcome
   delivery-by-verdict d = rw (model-held, file-held)
 
   live-reply : (p z q : ℕ) → answerReply (liveIn (holding (some b) y) p z q) ≡ atEntry b p z q (value (liveMark b p z q))
-  unfolding liveIn modelHeld
+  unfolding liveIn modelHeld entryValue
   live-reply p z q =
       let is = model-right b y right in
       simp (model-of-pair b y, held-length b is)
-      (entry-reply (statesOf b) (symbolsOf b) _ true (liveMark b) (λ has. listed-same b is (liveMark b)) p z q)
+      (entry-reply (statesOf b) (symbolsOf b) true _ (liveMark b) (λ has. listed-same b is (liveMark b)) p z q)
 
   -- The chance of a short run: 44, then 45, then the number, which is worked out only where it is shown.
   short-by : (n p z q : ℕ)
@@ -189,23 +198,26 @@ module _ (b d : List ℕ) (is : verdict b d ≡ Accepted) where
 
   upper-reply : (p z q : ℕ) → answerReply (upperIn (holding (some b) (some d)) p z q)
       ≡ atEntry b p z q (value (uppersOf (statesOf b) (symbolsOf b) d p z q))
-  unfolding upperIn withModel modelHeld numbersHeld
+  unfolding upperIn withModel modelHeld numbersHeld exitValue
   upper-reply p z q =
       rw (held-length b model-is)
-      (entry-reply (statesOf b) (symbolsOf b) _ true (uppersOf (statesOf b) (symbolsOf b) d) (λ has. listed-same b model-is _) p z q)
+      (entry-reply (statesOf b) (symbolsOf b) true _ (uppersOf (statesOf b) (symbolsOf b) d) (λ has. exits-same b model-is _) p z q)
 
   lower-reply : (p z q : ℕ) → answerReply (lowerIn (holding (some b) (some d)) p z q) ≡ atEntry b p z q (lowerReply b d p z q)
-  unfolding lowerIn withModel modelHeld numbersHeld shapeFor
+  unfolding lowerIn withModel modelHeld numbersHeld shapeFor exitValue
   lower-reply p z q =
       rw (shaped, held-length b model-is)
-      (entry-reply (statesOf b) (symbolsOf b) _ (hasLowers (filed .shaped)) (lowersOf (statesOf b) (symbolsOf b) d)
-      (λ has. rw has (listed-same b model-is _)) p z q)
+      (entry-reply (statesOf b) (symbolsOf b) (hasLowers (filed .shaped)) (entriesByExit (statesOf b) (symbolsOf b) held) (lowersOf (statesOf b) (symbolsOf b) d)
+      (λ has. rw has (exits-same b model-is _)) p z q)
+    where
+      held : List ℕ
+      held = ifStanding (hasLowers (filed .shaped)) (listedByExit (statesOf b) (symbolsOf b) (lowersOf (statesOf b) (symbolsOf b) d))
 
   mean-reply : (p z : ℕ) → answerReply (meanIn (holding (some b) (some d)) p z) ≡ atRow b p z (meanReply b d p z)
   unfolding meanIn withModel modelHeld numbersHeld shapeFor
   mean-reply p z =
       rw (shaped, held-length b model-is)
-      (row-reply (statesOf b) (symbolsOf b) _ (hasMeans (filed .shaped)) (meansOf (statesOf b) (symbolsOf b) (filed .shaped) d)
+      (row-reply (statesOf b) (symbolsOf b) (hasMeans (filed .shaped)) _ (meansOf (statesOf b) (symbolsOf b) (filed .shaped) d)
       (λ has. rw has (rows-same b model-is _)) p z)
 
   margin-reply : answerReply (marginIn (holding (some b) (some d)))
@@ -244,12 +256,12 @@ mark-taken b d (some e) = go (sameDelivery b e d)
 -- ---- a delivery merged
 
 module _ (b e d : List ℕ) (former : verdict b e ≡ Accepted) where
-  merge-by-verdict : mergeDelivery (holding (some b) (some e)) d ≡ mergeBy (verdict b d) (holding (some b) (some e)) b d
+  pub merge-by-verdict : mergeDelivery (holding (some b) (some e)) d ≡ mergeBy (verdict b d) (holding (some b) (some e)) b d
   unfolding mergeDelivery mergeOutcome
   merge-by-verdict = rw (model-held b (some e) former, file-held b (some e) former)
 
   -- What is held of the two deliveries makes what is held of the merged file.
-  joined-is : verdict b d ≡ Accepted
+  pub joined-is : verdict b d ≡ Accepted
       → joined (holding (some b) (some e)) b (shapeFor b d) d
       ≡ received (holding (some b) (some e)) b (shapeFor b (merged b e d)) (merged b e d)
   unfolding shapeFor
@@ -261,7 +273,7 @@ module _ (b e d : List ℕ) (former : verdict b e ≡ Accepted) where
 
 -- ---- the replies of a register that holds the pair of m and y
 
-cleared-holds : holdsModel (Filing.cleared .model .length) ≡ false
+pub cleared-holds : holdsModel (Filing.cleared .model .length) ≡ false
 unfolding Filing.cleared noModel holdsModel
 cleared-holds = refl
 

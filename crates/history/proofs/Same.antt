@@ -12,6 +12,8 @@ use Rattle.walks.specs.Sums.{allTo}
 use Rattle.walks.specs.Order.{entriesIn, rowsIn, rowAt, entryAt, AtRows, AtEntries}
 use Rattle.walks.proofs.Exactly.{eq-exactly, both, same-test}
 use Rattle.walks.proofs.Sums.{all-exactly}
+use Rattle.walks.proofs.Places.{entry-below}
+use Rattle.walks.proofs.Exits.{Ordered, exit-ordered}
 use Rattle.words.specs.Words.{Bytes}
 use Rattle.model.specs.Format.{mostEntries}
 use Rattle.model.specs.Records.{statesOf, symbolsOf}
@@ -28,7 +30,7 @@ use Rattle.delivery.specs.Records.{valueAt}
 use Rattle.delivery.specs.Shapes.{hasLowers, hasMeans, sameShape, meansFrom, recordsIn, shapeOf}
 use Rattle.delivery.specs.Numbers.{uppersOf, lowersOf, meansOf}
 use Rattle.delivery.specs.Merged.{mergedShape, mergedMeans, merged}
-use Rattle.ppda.specs.Equations.{RowVector}
+use Rattle.ppda.specs.Equations.{Vector, RowVector, Same}
 use Rattle.delivery.proofs.Shapes.{same-shape, shape-long}
 use Rattle.delivery.proofs.Due.{each-record}
 use Rattle.delivery.proofs.Told.{SameFields, told-by-records}
@@ -38,8 +40,8 @@ use Rattle.merging.proofs.Sharper.{uppers-joined, lowers-are, means-are}
 use Rattle.verdict.specs.Verdict.{verdict}
 use Rattle.verdict.proofs.Accepted.{delivery-accepted}
 use Rattle.certificate.proofs.Rest.{at-numbers, at-row-numbers}
-use Rattle.held.specs.Held.{listed, listedRows, ifStanding, numbersHeld}
-use Rattle.held.proofs.Listed.{listed-at, rows-at}
+use Rattle.held.specs.Held.{padded, listedByExit, listedRows, ifStanding, numbersHeld}
+use Rattle.held.proofs.Listed.{listed-at, listed-cong, rows-at}
 use Rattle.filing.specs.Known.{sameTo, sameNumbers}
 use Rattle.filing.proofs.Known.{same-exactly}
 use Rattle.register.specs.Filing.{shapeFor}
@@ -79,19 +81,30 @@ if-standing : (t : Bool) (n : ℕ) (l k : List ℕ) {A : Type 0} → (t ≡ true
 if-standing true n l k f = (λ a. f refl .0 (a refl), λ same e. f refl .1 same)
 if-standing false n l k f = (λ a. same-exactly n _ _ .1 (λ i lt. refl), λ same e. absurd (false≢true e))
 
+-- Two listed vectors have the same numbers exactly where the vectors are the same, whatever the order of entries.
+pub same-listed : {s g : ℕ} {place : ℕ → ℕ → ℕ → ℕ} {by : Vector → ℕ → ℕ} → Ordered s g place by → entriesIn s g ≤ mostEntries → (u v : Vector)
+    → Same s g u v ↔ (sameTo (entriesIn s g) (padded (by u) (entriesIn s g)) (padded (by v) (entriesIn s g)) ≡ true)
+same-listed {s} {g} {place} {by} o few u v = (
+  λ same. same-exactly (entriesIn s g) _ _ .1 (λ i lt. ap (λ l. getD l i 0) (listed-cong o u v few same)),
+  λ same p z q hp hz hq.
+      sym (listed-at o u p z q hp hz hq few)
+      ∙ same-exactly (entriesIn s g) _ _ .0 same (place p z q) (o .below p z q hp hz hq)
+      ∙ listed-at o v p z q hp hz hq few,
+)
+
 -- A block of entries and a block of rows, in lists as the register holds them.
 module _ (s g : ℕ) (e d : List ℕ) (at : ℕ → ℕ) where
   entries-same : entriesIn s g ≤ mostEntries
       → AtEntries s g (λ p z q.
       (sameRecord e d (at (entryAt s g p z q)) ≡ true) ↔ (valueAt e (at (entryAt s g p z q)) ≡ valueAt d (at (entryAt s g p z q))))
       → ((i : ℕ) → i < entriesIn s g → sameRecord e d (at i) ≡ true)
-      ↔ (sameTo (entriesIn s g) (listed s g (λ p z q. valueAt e (at (entryAt s g p z q)))) (listed s g (λ p z q. valueAt d (at (entryAt s g p z q)))) ≡ true)
-  entries-same few due = block-same e d (entriesIn s g) at _ _ (held e) (held d) (at-numbers _ due)
-    where
-      held : (x : List ℕ) (i : ℕ) → i < entriesIn s g → getD (listed s g (λ p z q. valueAt x (at (entryAt s g p z q)))) i 0 ≡ valueAt x (at i)
-      held x =
-          at-numbers (λ i. getD (listed s g (λ p z q. valueAt x (at (entryAt s g p z q)))) i 0 ≡ valueAt x (at i))
-          (λ p z q hp hz hq. listed-at s g (λ p z q. valueAt x (at (entryAt s g p z q))) p z q hp hz hq few)
+      ↔ (sameTo (entriesIn s g) (listedByExit s g (λ p z q. valueAt e (at (entryAt s g p z q)))) (listedByExit s g (λ p z q. valueAt d (at (entryAt s g p z q)))) ≡ true)
+  entries-same few due =
+      Iff·trans (
+        λ all p z q hp hz hq. due p z q hp hz hq .0 (all (entryAt s g p z q) (entry-below s g p z q hp hz hq)),
+        λ same. at-numbers (λ i. sameRecord e d (at i) ≡ true) (λ p z q hp hz hq. due p z q hp hz hq .1 (same p z q hp hz hq)),
+      )
+      (same-listed (exit-ordered s g) few (λ p z q. valueAt e (at (entryAt s g p z q))) (λ p z q. valueAt d (at (entryAt s g p z q))))
 
   rows-same : rowsIn s g ≤ mostEntries
       → AtRows s g (λ p z. (sameRecord e d (at (rowAt g p z)) ≡ true) ↔ (valueAt e (at (rowAt g p z)) ≡ valueAt d (at (rowAt g p z))))

@@ -9,8 +9,8 @@ use lib.ListN.{getD}
 use Rattle.outcome.specs.declared.Outcome.the-variants.{Accepted}
 use Rattle.walks.specs.Order.{rowsIn, entriesIn, AtEntries}
 use Rattle.walks.proofs.Numbers.{less-or-not}
+use Rattle.walks.proofs.Exits.{exit-ordered}
 use Rattle.ppda.specs.Units.{mostChance}
-use Rattle.ppda.specs.Equations.{entries}
 use Rattle.ppda.proofs.Vectors.{margin-same}
 use Rattle.model.specs.Records.{statesOf, symbolsOf}
 use Rattle.model.specs.Contracts.{Fits, Sized}
@@ -23,10 +23,10 @@ use Rattle.verdict.specs.Accepted.{UppersRight}
 use Rattle.verdict.proofs.Accepted.{delivery-accepted}
 use Rattle.certificate.specs.Margin.{marginOf}
 use Rattle.held.specs.declared.Numbers.{Numbers}
-use Rattle.held.specs.Held.{listed, listedRows, ifStanding, numbersHeld}
-use Rattle.held.specs.Contracts.{Values}
+use Rattle.held.specs.Held.{listedByExit, listedRows, ifStanding, numbersHeld}
+use Rattle.held.specs.Places.{entriesByExit}
 use Rattle.held.proofs.Listed.{padded-at, padded-past, listed-most}
-use Rattle.held.proofs.Blocks.{uppers-listed, where-it-stands}
+use Rattle.held.proofs.Blocks.{where-it-stands}
 use Rattle.merging.specs.declared.Keep.the-variants.{Smaller, Larger}
 use Rattle.merging.specs.Numbers.{keptTo, marginIn, numbersMerged}
 use Rattle.merging.specs.Contracts.{uppersMerged, lowersMerged, meansMerged, ChancesListed, Holds}
@@ -35,11 +35,11 @@ use Rattle.merging.proofs.Lists.{block-uppers}
 -- ---- each list
 
 module _ (s g : ℕ) (former : Numbers) (d : List ℕ) {n : ℕ} {b r : List ℕ} where
-  pub uppers-found : n ≡ entriesIn s g → Values d n b → r ≡ keptTo Smaller n (former .uppers) b → r ≡ uppersMerged s g former d
-  uppers-found e values is = is ∙ rw (e, uppers-listed s g d e values)
+  pub uppers-found : n ≡ entriesIn s g → b ≡ listedByExit s g (uppersOf s g d) → r ≡ keptTo Smaller n (former .uppers) b → r ≡ uppersMerged s g former d
+  uppers-found e second is = is ∙ rw (e, second)
 
   module _ (h k : Shape) where
-    pub lowers-found : (hasLowers h && hasLowers k) ≡ true → n ≡ entriesIn s g → b ≡ ifStanding (hasLowers k) (listed s g (lowersOf s g d))
+    pub lowers-found : (hasLowers h && hasLowers k) ≡ true → n ≡ entriesIn s g → b ≡ ifStanding (hasLowers k) (listedByExit s g (lowersOf s g d))
         → r ≡ keptTo Larger n (former .lowers) b → r ≡ lowersMerged s g h former k d
     lowers-found both e second is = where-it-stands both (is ∙ rw (e, second))
 
@@ -62,11 +62,14 @@ module _ {s g : ℕ} (fits : Fits s g) (former : Numbers) (d : List ℕ) (range 
   unfolding keptTo
   uppers-in-range e = go (less-or-not e (entriesIn s g))
     where
+      second : ℕ → ℕ
+      second i = getD (listedByExit s g (uppersOf s g d)) i 0
+
       go : (e < entriesIn s g) ⊎ (entriesIn s g ≤ e) → getD (uppersMerged s g former d) e 0 ≤ mostChance
       go (inl lt) =
-          rw (padded-at (λ i. min (getD (former .uppers) i 0) (getD (listed s g (uppersOf s g d)) i 0)) (entriesIn s g) e lt (fits .few-entries))
-          (omega (arith, listed-most s g (uppersOf s g d) mostChance e (fits .few-entries) range))
-      go (inr le) = rw (padded-past (λ i. min (getD (former .uppers) i 0) (getD (listed s g (uppersOf s g d)) i 0)) (entriesIn s g) e le) (omega arith)
+          rw (padded-at (λ i. min (getD (former .uppers) i 0) (second i)) (entriesIn s g) e lt (fits .few-entries))
+          (omega (arith, listed-most (exit-ordered s g) (uppersOf s g d) mostChance e (fits .few-entries) range))
+      go (inr le) = rw (padded-past (λ i. min (getD (former .uppers) i 0) (second i)) (entriesIn s g) e le) (omega arith)
 
 -- The uppers of an accepted delivery are in range.
 pub accepted-uppers : (b d : List ℕ) {s g : ℕ} → Sized b s g → verdict b d ≡ Accepted → AtEntries s g (λ p z q. uppersOf s g d p z q ≤ mostChance)
@@ -76,10 +79,10 @@ accepted-uppers b d {s} {g} sized accepted =
     λ p z q hp hz hq. uppers .due p z q hp hz hq .most
 
 -- The margin of the block that listed uppers are put into is theirs.
-pub margin-listed : {b l block : List ℕ} {s g n m : ℕ} → Sized b s g → Holds l n block → n ≡ entriesIn s g → m ≡ marginOf b block → m ≡ marginIn b l
+pub margin-listed : {b l block : List ℕ} {s g m : ℕ} → Sized b s g → Holds s g l (entriesIn s g) block → m ≡ marginOf b block → m ≡ marginIn b l
 unfolding marginOf
-margin-listed {b} {l} {block} {s} {g} sized holds e found =
-    found ∙ rw (← sized .states, ← sized .symbols) (margin-same (sized-model sized) (uppersOf s g block) (entries s g l) (block-uppers s g holds e))
+margin-listed {b} {l} {block} {s} {g} sized holds found =
+    found ∙ rw (← sized .states, ← sized .symbols) (margin-same (sized-model sized) (uppersOf s g block) (entriesByExit s g l) (block-uppers s g holds))
 
 -- ---- all numbers
 

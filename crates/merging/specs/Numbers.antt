@@ -5,7 +5,6 @@ use mathlib.Core.Bool.{Bool, true, false, cond, _&&_}
 use mathlib.Core.List.{List}
 use lib.ListN.{getD}
 use Rattle.walks.specs.Order.{rowsIn, entriesIn}
-use Rattle.ppda.specs.Equations.{entries}
 use Rattle.ppda.specs.Margin.{margin}
 use Rattle.model.specs.Records.{statesOf, symbolsOf}
 use Rattle.model.specs.Rules.{rulesOf}
@@ -13,6 +12,7 @@ use Rattle.delivery.specs.declared.shape.Shape.{Shape}
 use Rattle.delivery.specs.Shapes.{hasLowers, hasMeans}
 use Rattle.held.specs.declared.Numbers.{Numbers}
 use Rattle.held.specs.Held.{padded, ifStanding}
+use Rattle.held.specs.Places.{entriesByExit}
 use Rattle.merging.specs.declared.Keep.{Keep}
 use Rattle.merging.specs.declared.Keep.the-variants.{Smaller, Larger}
 
@@ -31,9 +31,9 @@ meansTo n true true l k = keptTo Smaller n l k
 meansTo n true false l k = l
 meansTo n false other l k = k
 
--- The margin of listed uppers u, for the model b.
+-- The margin of uppers u that are listed by exit, for the model b.
 abbrev pub marginIn : List ℕ → List ℕ → ℕ
-marginIn b u = margin (rulesOf b) (statesOf b) (symbolsOf b) (entries (statesOf b) (symbolsOf b) u)
+marginIn b u = margin (rulesOf b) (statesOf b) (symbolsOf b) (entriesByExit (statesOf b) (symbolsOf b) u)
 
 -- The numbers `former`, of a delivery of shape h, merged with the numbers `second` of one of shape k, for the model b. The margin is their own.
 unfoldable pub numbersMerged : List ℕ → Shape → Numbers → Shape → Numbers → Numbers

@@ -9,14 +9,14 @@ use delivery::shape::has_means;
 use held::Numbers;
 use held::filing::lowers_of;
 use held::filing::means_of;
-use held::lists::values;
+use held::lists::values_by_exit;
 use model::format::MOST_ENTRIES;
 use model::sizes::Sizes;
 use words::put_word;
 ghost use mathlib.Core.Bool.{cond, _&&_, _||_};
 ghost use mathlib.Core.Path.{_≡_};
-ghost use Prim.Native.Nat.{_≤_};
-ghost use Rattle.walks.specs.Order.{entriesIn};
+ghost use Prim.Native.Nat.{_+_, _*_, _≤_, _<_};
+ghost use Rattle.walks.specs.Order.{rowsIn, entriesIn};
 ghost use Rattle.model.specs.Format.{mostEntries};
 ghost use Rattle.model.specs.Contracts.{Fits, Sized};
 ghost use Rattle.delivery.specs.Shapes.{hasLowers, hasMeans};
@@ -101,10 +101,9 @@ fn merged_uppers(former: Numbers, file: &[u8], n: Sizes) -> [u32; MOST_ENTRIES]
     requires { ⌜ Fits (n .states) (n .symbols) × HasRecords (entriesIn (n .states) (n .symbols)) (now file) ⌝ }
     ensures { λ r. ⌜ r ≡ uppersMerged (n .states) (n .symbols) former (now (file .entry)) ⌝ }
 {
-    let v = n.entries();
     let held = former.uppers;
-    let second = values(file, v);
-    kept_of(Keep::Smaller, &held, &second, v)
+    let second = values_by_exit(file, n);
+    kept_of(Keep::Smaller, &held, &second, n.entries())
 }
 
 // The larger lowers, where both deliveries have any.
@@ -148,21 +147,41 @@ fn merged_means(
     kept_of(Keep::Smaller, &a, &b, n.rows())
 }
 
-// A block of records whose values are the first n listed uppers.
-fn block_of(list: &[u32; MOST_ENTRIES], n: usize) -> [u8; BLOCK_BYTES]
-    requires { ⌜ ChancesListed (now list) × (n ≤ mostEntries) ⌝ }
-    ensures { λ r. ⌜ Holds (now (list .entry)) n r ⌝ }
+// Puts the listed uppers of a row into its records, behind those of the rows before it.
+fn put_row(list: &[u32; MOST_ENTRIES], n: Sizes, row: usize, block: &mut [u8; BLOCK_BYTES])
+    requires listed { ⌜ ChancesListed (now list) × Fits (n .states) (n .symbols) × (row < rowsIn (n .states) (n .symbols)) ⌝ }
+    requires before { ⌜ Holds (n .states) (n .symbols) (now list) (row * n .states) (now block) ⌝ }
+    ensures { λ _. ⌜ Holds (n .states) (n .symbols) (now (list .entry)) ((row + 1) * n .states) (now (block .exit)) ⌝ }
+{
+    let s = n.states;
+    let mut q = 0;
+    while q < s {
+        let e = n.entry_in(row, q);
+        put_word(
+            block,
+            RECORD_BYTES * e + VALUE_BYTE,
+            list[n.exit_in(row, q)],
+        );
+        q += 1;
+    }
+}
+
+// A block of records in the order of files whose values are uppers that are listed by exit.
+fn block_of(list: &[u32; MOST_ENTRIES], n: Sizes) -> [u8; BLOCK_BYTES]
+    requires { ⌜ ChancesListed (now list) × Fits (n .states) (n .symbols) ⌝ }
+    ensures { λ r. ⌜ Holds (n .states) (n .symbols) (now (list .entry)) (entriesIn (n .states) (n .symbols)) r ⌝ }
 {
     let mut block = [0u8; BLOCK_BYTES];
-    let mut e = 0;
-    while e < n {
-        put_word(&mut block, RECORD_BYTES * e + VALUE_BYTE, list[e]);
-        e += 1;
+    let rows = n.rows();
+    let mut row = 0;
+    while row < rows {
+        put_row(list, n, row, &mut block);
+        row += 1;
     }
     block
 }
 
-// The margin of listed uppers, or 0 where there are no lowers.
+// The margin of uppers that are listed by exit, or 0 where there are no lowers.
 fn merged_margin(model: &[u8], n: Sizes, stand: bool, uppers: &[u32; MOST_ENTRIES]) -> u64
     requires { ⌜ Sized (now model) (n .states) (n .symbols) × ChancesListed (now uppers) ⌝ }
     ensures { λ r. ⌜ r ≡ cond stand (marginIn (now (model .entry)) (now (uppers .entry))) 0 ⌝ }
@@ -170,7 +189,7 @@ fn merged_margin(model: &[u8], n: Sizes, stand: bool, uppers: &[u32; MOST_ENTRIE
     if !stand {
         return 0;
     }
-    let block = block_of(uppers, n.entries());
+    let block = block_of(uppers, n);
     margin_of_uppers(model, &block, n)
 }
 

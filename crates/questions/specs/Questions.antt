@@ -14,20 +14,21 @@ use Rattle.calls.specs.declared.Question.the-variants as Asks
 use Rattle.calls.specs.declared.Answer.{Answer}
 use Rattle.calls.specs.Answers.{answeredOr, answered}
 use Rattle.held.specs.Held.{holdsModel, isHeld, lowersStand, meansStand}
-use Rattle.held.specs.Places.{hasRow, hasEntry, rowValue, entryValue}
+use Rattle.held.specs.Places.{hasRow, hasEntry, rowValue, entryValue, exitValue}
 use Rattle.shortruns.specs.Short.{fewSteps}
 use Rattle.questions.specs.declared.Shown.{Shown}
 
--- An entry's upper, its lower, a row's mean steps, the margin, and an entry's live mark, which needs a model only; the numbers by the list l, in file order.
+-- An entry's upper, its lower, a row's mean steps, the margin, and an entry's live mark, which needs a model only; the numbers by the list l, of uppers and lowers
+-- by exit (request A.6), of mean steps and marks in file order.
 abbrev pub upperAnswer : Shown → List ℕ → ℕ → ℕ → ℕ → Answer
 upperAnswer h l p z q =
     answered (holdsModel (h .length)) (isHeld (h .delivery)) (hasEntry (h .states) (h .symbols) p z q) true
-    (entryValue (h .states) (h .symbols) l p z q)
+    (exitValue (h .states) (h .symbols) l p z q)
 
 abbrev pub lowerAnswer : Shown → List ℕ → ℕ → ℕ → ℕ → Answer
 lowerAnswer h l p z q =
     answered (holdsModel (h .length)) (isHeld (h .delivery)) (hasEntry (h .states) (h .symbols) p z q) (lowersStand (h .delivery))
-    (entryValue (h .states) (h .symbols) l p z q)
+    (exitValue (h .states) (h .symbols) l p z q)
 
 abbrev pub meanAnswer : Shown → List ℕ → ℕ → ℕ → Answer
 meanAnswer h l p z =
@@ -54,7 +55,7 @@ withinAnswer h b n p z q =
     answeredOr (holdsModel (h .length)) true (hasEntry (h .states) (h .symbols) p z q) (fewSteps n) TooManySteps
     (shortChance (take (h .length) b) n p z q)
 
--- The lists of numbers in file order, by their places: live marks, uppers, lowers and mean steps.
+-- The lists of numbers, by their places: live marks, uppers, lowers and mean steps.
 abbrev pub marksAt : ℕ
 marksAt = 0
 

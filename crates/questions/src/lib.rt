@@ -10,6 +10,7 @@ use held::is_held;
 use held::lowers_stand;
 use held::means_stand;
 use held::places::entry_value;
+use held::places::exit_value;
 use held::places::has_entry;
 use held::places::has_row;
 use held::places::row_value;
@@ -39,7 +40,7 @@ pub struct Shown {
     pub margin: u64,
 }
 
-// The lists of numbers in file order, by their places: live marks, uppers, lowers and mean steps.
+// The lists of numbers, by their places: live marks and mean steps in the order of files, uppers and lowers by exit (request A.6).
 pub const MARKS: usize = 0;
 
 pub const UPPERS: usize = 1;
@@ -61,7 +62,7 @@ pub fn upper(held: Shown, uppers: &[u32; MOST_ENTRIES], p: usize, z: usize, q: u
     ensures { λ r. ⌜ r ≡ upperAnswer held (now (uppers .entry)) p z q ⌝ }
 {
     let n = sizes_held(held.states, held.symbols);
-    let value = entry_value(uppers, n, p, z, q);
+    let value = exit_value(uppers, n, p, z, q);
     let length = held.length;
     let delivery = held.delivery;
     answered(
@@ -78,7 +79,7 @@ pub fn lower(held: Shown, lowers: &[u32; MOST_ENTRIES], p: usize, z: usize, q: u
     ensures { λ r. ⌜ r ≡ lowerAnswer held (now (lowers .entry)) p z q ⌝ }
 {
     let n = sizes_held(held.states, held.symbols);
-    let value = entry_value(lowers, n, p, z, q);
+    let value = exit_value(lowers, n, p, z, q);
     let length = held.length;
     let delivery = held.delivery;
     answered(

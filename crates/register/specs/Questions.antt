@@ -23,7 +23,7 @@ shownOf r = record {
   margin = r .numbers .margin;
 }
 
--- The lists of numbers in file order: live marks, uppers, lowers and mean steps.
+-- The lists of numbers: live marks, uppers, lowers and mean steps.
 abbrev pub listsOf : Register → List (List ℕ)
 listsOf r = r .model .live ∷ r .numbers .uppers ∷ r .numbers .lowers ∷ r .numbers .means ∷ []
 

@@ -6,7 +6,7 @@ use lib.ListN.{getD}
 use borrow.Author.Needs.{needs}
 use Rattle.held.specs.Held.{padded}
 use Rattle.merging.specs.Numbers.{kept, keptTo}
-use Rattle.merging.proofs.Lists.{padded-none, padded-step, padded-end}
+use Rattle.held.proofs.Listed.{padded-none, padded-step, padded-end}
 use Rattle.merging.proofs.kept_of.Statement.{statement}
 use Rattle.merging.proofs.kept_of.Tie as tie
 

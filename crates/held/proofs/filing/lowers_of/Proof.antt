@@ -1,7 +1,7 @@
--- `lowers_of`: the lowers are the values of the first V records of the rest, and where none stand there are zeros.
+-- `lowers_of`: the lowers are the values of the first V records of the rest, by exit, and where none stand there are zeros.
 use native.Mathlib.Omega.{arith}
 use mathlib.Core.Bool.{true}
-use mathlib.Core.Path.{_≡_, sym, _∙_}
+use mathlib.Core.Path.{_≡_, refl, sym, _∙_}
 use denote.Ref.{now}
 use borrow.Author.Tests.{not-true, not-false}
 use borrow.Author.Needs.{needs}
@@ -36,17 +36,21 @@ part-rest-start c = omega (arith, uppers-fit _ _ _ _ (c .before .before .before 
 part-rest-end : tie.Need-part-rest-end
 part-rest-end c = search needs
 
-values-requires : tie.Need-values-requires
-values-requires c κs =
+values-by-exit-requires : tie.Need-values-by-exit-requires
+values-by-exit-requires c κs =
     let entries = c .before in
     let start = entries .before .before .before .before in
     let e = entries .entries .ensures in
-    (part-holds (now (start .args .delivery)) (e .0) (e .0) (lowers-fit _ _ _ _ (start .pre .of) (stand (entries .before))), e .1)
+    record {
+      fits = start .pre .fits;
+      whole = part-holds (now (start .args .delivery)) (e .0) refl (lowers-fit _ _ _ _ (start .pre .of) (stand (entries .before)));
+    }
 
 returns-2 : tie.Need-returns-2
 returns-2 c =
     let entries = c .before .before in
-    where-it-stands (stand (entries .before)) (lowers-listed _ _ _ (entries .entries .ensures .0) (c .values .ensures))
+    let fits = entries .before .before .before .before .pre .fits in
+    where-it-stands (stand (entries .before)) (lowers-listed _ _ _ (fits .few-entries) (entries .entries .ensures .0) (c .values-by-exit .ensures))
 
 pub lowers-of-spec : {M : Type 1} → statement M
 lowers-of-spec =
@@ -59,5 +63,5 @@ lowers-of-spec =
     sub-rest
     part-rest-start
     part-rest-end
-    values-requires
+    values-by-exit-requires
     returns-2)
