@@ -6,6 +6,7 @@ pub mod Pairs
 pub mod Plain
 pub mod Known
 pub mod Replies
+pub mod FileOrder
 pub mod Named
 pub mod Merges
 pub mod Shown
