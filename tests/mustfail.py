@@ -26,7 +26,7 @@ class Row(NamedTuple):
 
 
 # Registers that have to break the contracts (document 01, "Conditions of acceptance", 3); the mistakes of method; short runs (request A.1);
-# counter machines (request A.2); marks (request A.3); the order of records (request A.4); merges (request A.5); live marks, and reasons; desks.
+# counter machines (request A.2); marks (request A.3); the order of records (request A.4); live marks, and reasons; merges (request A.5); numbers by exit (request A.6); desks.
 TABLE = [
     Row("takes no model", "filing/takes_no_model", ("let found = wellformed::check(file); found",)),
     Row("takes no model", "wellformed/takes_no_model", ("    (0 < n) & ((n % RECORD_BYTES == 0) & (n <= 10240))",)),
@@ -199,16 +199,16 @@ TABLE = [
         ("refused((Reason::OutOfRange), i)", "refused((Reason::UnusedNotZero), i)")),
 
     # Merges (request A.5).
-    Row("merges by the larger upper", "merging/larger_upper_kept", ("let list = kept_of(Keep::Smaller, &held, &second, v); list",)),
+    Row("merges by the larger upper", "merging/larger_upper_kept", ("let list = kept_of(Keep::Smaller, &held, &second, n.entries()); list",)),
     Row("merges by the smaller lower", "merging/smaller_lower_kept", ("let list = kept_of(Keep::Larger, &a, &b, n.entries()); list",)),
     # the twin exchanges the two deliveries in the definition, the code and their proofs; so does that of the larger mean by definition
     Row("merges by the smaller lower, by definition", "merging/smaller_lower_by_definition",
         ("(keptTo Larger (entriesIn (statesOf b) (symbolsOf b)) (second .lowers) (former .lowers));",
-         "(keptTo Larger (entriesIn s g) (ifStanding (hasLowers k) (listed s g (lowersOf s g d))) (former .lowers))",
+         "(keptTo Larger (entriesIn s g) (ifStanding (hasLowers k) (listedByExit s g (lowersOf s g d))) (former .lowers))",
          "kept_of(Keep::Larger, &b, &a, n.entries())", "r ≡ keptTo Larger n b (former .lowers)",
-         "ifStanding (x && y) (keptTo Larger (entriesIn s g) (ifStanding y (listed s g k)) (ifStanding x (listed s g l)))",
-         "lowers-listed true true l k m same = larger-listed k l ∙"
-         " listed-cong s g (larger k l) (larger l k) (fits .few-entries) (λ p z q hp hz hq. omega arith) ∙")),
+         "(keptTo Larger (entriesIn s g) (ifStanding y (padded (by k) (entriesIn s g))) (ifStanding x (padded (by l) (entriesIn s g))))",
+         "both-listed true true l k m same = kept-listed Larger k l m (λ p z q hp hz hq. let e = same refl p z q hp hz hq in omega (arith, e))",
+         "(keptTo Larger (entriesIn s g) (second .lowers) (former .lowers));")),
     Row("merges by the larger mean", "merging/larger_mean_kept", ("let list = kept_of(Keep::Smaller, &a, &b, n.rows()); list",)),
     Row("merges by the larger mean, by definition", "merging/larger_mean_by_definition",
         ("meansTo n true true l k = keptTo Smaller n k l", "kept_of(Keep::Smaller, &b, &a, n.rows())", "r ≡ keptTo Smaller n b (former .means)",
@@ -227,9 +227,9 @@ TABLE = [
         ("    (λ p z q. smaller (uppersOf s g e) (uppersOf s g d) p z q)",)),
     Row("shows the margin of the first", "merging/margin_of_the_first", ("        margin: { let own = Numbers { uppers, lowers, means, margin }; own.margin },",)),
     Row("shows the margin of the first, by definition", "merging/margin_of_the_first_by_definition",
-        ("          (margin (rulesOf b) (statesOf b) (symbolsOf b) (entries (statesOf b) (symbolsOf b)"
+        ("          (margin (rulesOf b) (statesOf b) (symbolsOf b) (entriesByExit (statesOf b) (symbolsOf b)"
          " (keptTo Smaller (entriesIn (statesOf b) (symbolsOf b)) (former .uppers) (second .uppers)))) 0;",)),
-    Row("keeps the uppers of the second", "merging/second_uppers_kept", ("let list = kept_of(Keep::Smaller, &held, &second, v); list",)),
+    Row("keeps the uppers of the second", "merging/second_uppers_kept", ("let list = kept_of(Keep::Smaller, &held, &second, n.entries()); list",)),
     Row("replaces the held delivery by the second", "register/second_held_after_a_merge",
         ("let joined = merged_shape(first, second); let shape = joined;", "let merged = merged_numbers(model, n, first, self.numbers, second, file);",
          "tie.Need-merged-numbers-requires", "(numbers .merged-numbers .ensures)")),
@@ -260,6 +260,26 @@ TABLE = [
         ("((p z q : ℕ) → p < s → z < g → q < s → l p z q ≤ v p z q)",)),
     Row("reads the file of a merge before 42", "script/merge_file_read_before_42",
         ("Change::Merge => delivery & model,",)),
+
+    # Uppers and lowers by exit (request A.6).
+    Row("exchanges state and exit in the place by exit", "model/state_and_exit_exchanged_in_a_place", ("(self.states * q + p) * self.symbols + z",)),
+    Row("puts the symbol before the state in the place by exit", "model/symbol_before_state_in_a_place", ("(self.states * q + p) * self.symbols + z",)),
+    Row("exchanges row and exit in the place by exit", "model/row_and_exit_exchanged_in_a_place", ("self.rows() * q + row",)),
+    Row("exchanges state and exit in the place by exit, by definition", "walks/state_and_exit_exchanged_by_definition",
+        ("exitPlace s g p z q = rowAt g (rowAt s q p) z", "byExit s g h i = h ((i / g) % s) (i % g) (i / g / s)")),
+    Row("puts the symbol before the state in the place by exit, by definition", "walks/symbol_before_state_by_definition",
+        ("exitPlace s g p z q = rowAt g (rowAt s q p) z", "byExit s g h i = h ((i / g) % s) (i % g) (i / g / s)")),
+    Row("puts the numbers of a block by the order of files", "held/walk_in_file_order", ("list[(at)] = (value_at(block, e)) as u32;",)),
+    Row("asks with state and exit exchanged", "held/asked_with_state_and_exit_exchanged", ("number_at(list, (n.exit_place(p, z, q)))",)),
+    Row("works the margin of a merge out by the order of files", "merging/margin_walk_in_file_order",
+        ("put_word(block, RECORD_BYTES * e + VALUE_BYTE, (list[at]));",)),
+    Row("works the margin of a merge out by the order of files, by definition", "merging/margin_in_file_order_by_definition",
+        ("use Rattle.held.specs.Places.{entriesByExit}",
+         "marginIn b u = margin (rulesOf b) (statesOf b) (symbolsOf b) (λ p z q. entriesByExit (statesOf b) (symbolsOf b) u p z q)")),
+    Row("has a register before A.6 that shows lowers for uppers", "history/lowers_read_for_uppers_in_file_order",
+        ("(entryValue (r .model .states) (r .model .symbols) (let l = r .numbers .uppers in l) p z q)",)),
+    Row("says that answers are the same before the first call alone", "history/same_answers_at_the_start_alone",
+        ("SameAnswers cs = (c : Call) → replyTo (let xs = cs in xs) c ≡ replyByFile (registerByFile cs) c", "same-answers ds c = let cs : List Call = ds in")),
 
     Row("the desk replies to the call before, by definition", "script/reply_to_the_call_before",
         ("use mathlib.Core.List.{List, [], _∷_, _++_, map, headD}", "{Call, clear, fileModel, fileCounter, fileDelivery, merge, cleared}",

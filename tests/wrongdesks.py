@@ -494,6 +494,83 @@ MERGES = ("the larger upper", "the upper of the held one", "the upper of the sec
           "merges with what was filed last, not with what was merged since", "files the second as a delivery")
 
 
+# Uppers and lowers held by exit (request A.6): put into lists by the place of each entry, and read at a place.
+
+def by_exit(table, p, z, q):
+    return (q * table.states + p) * table.symbols + z
+
+
+def by_file(table, p, z, q):
+    return table.entry_at(p, z, q)
+
+
+def state_for_exit(table, p, z, q):
+    return (p * table.states + q) * table.symbols + z
+
+
+def symbol_before_state(table, p, z, q):
+    return (q * table.symbols + z) * table.states + p
+
+
+def listed(table, numbers, place):
+    """The numbers of the entries, which come in file order, each at its place."""
+    held = [0] * len(numbers)
+    for entry, number in zip(table.entries, numbers):
+        held[place(table, *entry)] = number
+    return held
+
+
+def read_back(table, held, place):
+    """What stands at the place of each entry, in file order."""
+    return [held[place(table, *entry)] for entry in table.entries]
+
+
+def put_and_read(put, read):
+    """The numbers of a block, put in by the one place and read at the other."""
+    return lambda table, block: block and read_back(table, listed(table, block, put), read)
+
+
+def questions_by(put, read):
+    turned = put_and_read(put, read)
+
+    def figures(self):
+        upper, lower, mean = Desk.figures(self)
+        return checker.Figures(turned(self.table(), upper), turned(self.table(), lower), mean)
+    return {"figures": figures}
+
+
+def margin_by(put, read):
+    """An upper of a live entry that is 0, which no accepted one is, is taken for 1: a share divides by it."""
+    def margin(self):
+        Desk.margin(self)
+        uppers = put_and_read(put, read)(self.table(), plainpair.figures_of(self.model, self.delivery).upper)
+        return self.value(checker.margin(self.table(), [upper or int(live) for upper, live in zip(uppers, self.table().is_live)]))
+    return {"margin": margin}
+
+
+def merges_by(held, second):
+    """The pairs stand at the same place of two lists: that of the held delivery, by the one place, and that of the second, by the other."""
+    def merged_of(self, former, file):
+        table, (one, other) = self.table(), (plainpair.figures_of(self.model, delivery) for delivery in (former, file))
+        first, last = ([block and listed(table, block, place) for block in figures[:2]] for figures, place in ((one, held), (other, second)))
+        merged = checker.merged_figures(checker.Figures(*first, one.mean), checker.Figures(*last, other.mean))
+        return checker.file_of(table, checker.Figures(*(block and read_back(table, block, held) for block in merged[:2]), merged.mean))
+    return {"merged_of": merged_of}
+
+
+WRONG_PLACES = {
+    "held by exit and asked in file order": wrong(**questions_by(by_exit, by_file)),
+    "held in file order and asked by exit": wrong(**questions_by(by_file, by_exit)),
+    "held by exit and asked with state and exit exchanged": wrong(**questions_by(by_exit, state_for_exit)),
+    "held by exit and asked with the symbol before the state": wrong(**questions_by(by_exit, symbol_before_state)),
+    "the margin of uppers by exit, walked in file order": wrong(**margin_by(by_exit, by_file)),
+    "the margin of uppers by exit, walked with state and exit exchanged": wrong(**margin_by(by_exit, state_for_exit)),
+    "a merge of the held ones by exit with the second's in file order": wrong(**merges_by(by_exit, by_file)),
+    "a merge of the held ones by exit with the second's, state and exit exchanged": wrong(**merges_by(by_exit, state_for_exit)),
+    "a merge of the held ones by exit with the second's, the symbol before the state": wrong(**merges_by(by_exit, symbol_before_state)),
+}
+
+
 def read_one_byte_less(self, path, most):
     return self.files(path, most - 1)
 
@@ -616,6 +693,7 @@ WRONG = {
     "a pair's symbols exchanged": by_pairs(lambda self, n, rule, q: pair_of_request(self, n, rule._replace(y=rule.x, x=rule.y), q)),
     **WRONG_COUNTERS,
     **{"a merge: " + name: merging.WRONG_DESKS[name] for name in MERGES},
+    **WRONG_PLACES,
     "the shortfall left out": wrong(reply_to=refusal_cut(shortfall="0")),
     "the place left out": wrong(reply_to=refusal_cut(place="0")),
     "a byte less read of files": wrong(read=read_one_byte_less),
@@ -656,6 +734,8 @@ RIGHT = {  # which no script may notice
     "known by the bytes of the file": known_by(lambda self, delivery: delivery),  # a wrong desk until request A.3
     "known by the shape and the numbers of each block": known_by(lambda self, delivery: (self.shape_in(delivery), plainpair.figures_of(self.model, delivery))),
     **{"a merge: " + name: kind for name, kind in merging.RIGHT_DESKS.items()},
+    **{"held " + name: wrong(**questions_by(place, place), **margin_by(place, place), **merges_by(place, place))
+       for name, place in (("by exit, as request A.6 has it", by_exit), ("in file order", by_file), ("with the symbol before the state", symbol_before_state))},
 }
 
 

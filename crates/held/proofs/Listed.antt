@@ -241,6 +241,11 @@ exit-value s g k q d hk =
     rw (here, ← exit-rows s g p z q)
     (let (state, symbol, exit) = exit-at s g p z q hp hz in rw (state, symbol, exit))
 
+-- With the number of one row more in its place, those of exit q go one place further.
+pub exits-more : (s g k q : ℕ) (h : ℕ → ℕ) {i v : ℕ} {l : List ℕ} → l ≡ padded h (exitIn s g k q) → i ≡ exitIn s g k q → exitIn s g k q < mostEntries
+    → v ≡ h (exitIn s g k q) → set l i v ≡ padded h (exitIn s g (k + 1) q)
+exits-more s g k q h is at room e = rw at (padded-end h (padded-step h (exitIn s g k q) is room e) (omega arith))
+
 -- ---- the marks by entries
 
 -- The list has the marks of the entries before e, and 0 from there on.

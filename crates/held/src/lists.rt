@@ -69,7 +69,9 @@ fn put_exit(block: &[u8], n: Sizes, q: usize, list: &mut [u32; MOST_ENTRIES])
     let rows = n.rows();
     let mut row = 0;
     while row < rows {
-        list[n.exit_in(row, q)] = value_at(block, n.entry_in(row, q)) as u32;
+        let e = n.entry_in(row, q);
+        let at = n.exit_in(row, q);
+        list[at] = value_at(block, e) as u32;
         row += 1;
     }
 }

@@ -5,7 +5,8 @@ use mathlib.Core.Bool.{Bool, true, false, cond, _&&_}
 use mathlib.Core.List.{List, [], _∷_}
 use mathlib.Core.Logic.{Iff·trans, Iff·symm}
 use mathlib.Core.Option.{Option, none, some}
-use mathlib.Core.Path.{_≡_, refl, sym, ap, subst, _∙_}
+use mathlib.Core.Path.{_≡_, refl, sym, ap, ap₂, subst, _∙_}
+use lib.ListN.{length}
 use Rattle.outcome.specs.declared.Outcome.{Outcome}
 use Rattle.outcome.specs.declared.Outcome.the-variants.{Accepted, Refused}
 use Rattle.walks.specs.Order.{entriesIn, entryAt, exitPlace}
@@ -34,7 +35,7 @@ use Rattle.merging.proofs.Held.{merged-in-order}
 use Rattle.filing.specs.Outcomes.{modelOutcome, deliveryOutcome, mergeOutcome}
 use Rattle.filing.specs.Known.{sameTo, sameNumbers, markBy}
 use Rattle.calls.specs.declared.Mark.the-variants.{Known, New}
-use Rattle.calls.specs.Answers.{modelReply, deliveryReply, answerReply}
+use Rattle.calls.specs.Answers.{answered, modelReply, deliveryReply, answerReply}
 use Rattle.calls.specs.Calls as Calls
 use Rattle.calls.specs.Calls.{Call, accepted, taken}
 use Rattle.register.specs.declared.Register.{Register}
@@ -196,7 +197,7 @@ upper-alike (some b) (some d) right p z q =
     let g = symbolsOf b in
     let same : entryValue s g (listed s g (uppersOf s g d)) p z q ≡ exitValue s g (listedByExit s g (uppersOf s g d)) p z q =
     value-either-way s g (few-entries b (model-right b (some d) right)) true (uppersOf s g d) p z q in
-    rw same
+    ap (λ n. answerReply (answered (holdsModel (length b)) true (hasEntry s g p z q) true n)) same
 
 lower-alike : (m y : Option (List ℕ)) → Right m y → (p z q : ℕ) → answerReply (lowerByFile (byFile m y) p z q) ≡ answerReply (lowerIn (holding m y) p z q)
 unfolding lowerByFile lowerIn withModel modelHeld numbersByFile numbersHeld
@@ -205,7 +206,8 @@ lower-alike (some b) none right p z q = rw (held-length b right)
 lower-alike (some b) (some d) right p z q =
     let s = statesOf b in
     let g = symbolsOf b in
-    rw (value-either-way s g (few-entries b (model-right b (some d) right)) (hasLowers (shapeFor b d)) (lowersOf s g d) p z q)
+    ap (λ n. answerReply (answered (holdsModel (length b)) true (hasEntry s g p z q) (hasLowers (shapeFor b d)) n))
+    (value-either-way s g (few-entries b (model-right b (some d) right)) (hasLowers (shapeFor b d)) (lowersOf s g d) p z q)
 
 -- The other calls do not look at uppers and lowers.
 model-alike : (m y : Option (List ℕ)) → Right m y → (b : List ℕ)
@@ -352,9 +354,7 @@ same-answers cs c =
 from-here : (past cs : List Call) → replies (registerAfter past) cs ≡ repliesByFile (registerByFile past) cs
 unfolding replies repliesByFile registerAfter registerByFile
 from-here past [] = refl
-from-here past (c ∷ cs) =
-    let same = same-answers past c in
-    rw (from-here (c ∷ past) cs, same)
+from-here past (c ∷ cs) = ap₂ _∷_ (same-answers past c) (from-here (c ∷ past) cs)
 
 pub same-answers-in-time : (cs : List Call) → SameAnswersInTime cs
 unfolding registerAfter registerByFile

@@ -157,11 +157,8 @@ fn put_row(list: &[u32; MOST_ENTRIES], n: Sizes, row: usize, block: &mut [u8; BL
     let mut q = 0;
     while q < s {
         let e = n.entry_in(row, q);
-        put_word(
-            block,
-            RECORD_BYTES * e + VALUE_BYTE,
-            list[n.exit_in(row, q)],
-        );
+        let at = n.exit_in(row, q);
+        put_word(block, RECORD_BYTES * e + VALUE_BYTE, list[at]);
         q += 1;
     }
 }

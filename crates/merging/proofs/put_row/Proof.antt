@@ -29,20 +29,21 @@ loop-holds c = (omega arith, holds-end (c .pre .1) (omega arith))
 entry-in-requires : tie.Need-entry-in-requires Inv-loop μ-loop
 entry-in-requires c κs = let pre = c .before .before .pre in (fits-narrow (pre .0 .1), pre .0 .2, c .loop-test .taken)
 
+exit-in-requires : tie.Need-exit-in-requires Inv-loop μ-loop
+exit-in-requires c κs = let pre = c .before .before .before .pre in (pre .0 .1, pre .0 .2, c .before .loop-test .taken)
+
 mul-put-word : tie.Need-mul-put-word Inv-loop μ-loop
-mul-put-word c = omega (arith, c .before .entry-in .ensures .1, c .before .before .before .before .pre .0 .1 .few-entries)
+mul-put-word c = omega (arith, c .before .before .entry-in .ensures .1, c .before .before .before .before .before .pre .0 .1 .few-entries)
 
 add-put-word : tie.Need-add-put-word Inv-loop μ-loop
-add-put-word c = omega (arith, c .before .entry-in .ensures .1, c .before .before .before .before .pre .0 .1 .few-entries)
-
-exit-in-requires : tie.Need-exit-in-requires Inv-loop μ-loop
-exit-in-requires c κs = let pre = c .before .before .before .before .pre in (pre .0 .1, pre .0 .2, c .before .before .loop-test .taken)
+add-put-word c = omega (arith, c .before .before .entry-in .ensures .1, c .before .before .before .before .before .pre .0 .1 .few-entries)
 
 mul-put-word-2 : tie.Need-mul-put-word-2 Inv-loop μ-loop
-mul-put-word-2 c = omega (arith, c .exit-in .ensures .1, c .before .before .before .before .before .pre .0 .1 .few-entries)
+mul-put-word-2 c = omega (arith, c .before .exit-in .ensures .1, c .before .before .entry-in .ensures .1, c .before .before .before .before .before .pre .0 .1 .few-entries)
 
 element-copy-out-put-word : tie.Need-element-copy-out-put-word Inv-loop μ-loop
-element-copy-out-put-word c = omega (arith, c .exit-in .ensures .1, c .before .before .before .before .before .pre .0 .1 .few-entries)
+element-copy-out-put-word c =
+    omega (arith, c .before .exit-in .ensures .1, c .before .before .entry-in .ensures .1, c .before .before .before .before .before .pre .0 .1 .few-entries)
 
 put-word-requires : tie.Need-put-word-requires Inv-loop μ-loop
 put-word-requires c κs =
@@ -61,7 +62,7 @@ loop-again c =
     let start = loop .before in
     let n = start .args .n in
     let entry = c .before .before .before .before .entry-in in
-    let exit = c .before .before .exit-in in
+    let exit = c .before .before .before .exit-in in
     let list = now (start .args .list) in (
       omega arith,
       rw (c .put-word .ensures)
@@ -83,9 +84,9 @@ put-row-spec =
     μ-loop
     loop-holds
     entry-in-requires
+    exit-in-requires
     mul-put-word
     add-put-word
-    exit-in-requires
     mul-put-word-2
     element-copy-out-put-word
     put-word-requires

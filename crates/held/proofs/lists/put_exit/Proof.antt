@@ -9,7 +9,7 @@ use Rattle.model.proofs.Records.{fits-narrow}
 use Rattle.delivery.specs.Records.{valueAt}
 use Rattle.delivery.specs.Numbers.{uppersOf}
 use Rattle.held.specs.Held.{padded}
-use Rattle.held.proofs.Listed.{exit-value, padded-step, padded-end}
+use Rattle.held.proofs.Listed.{exit-value, exits-more, padded-end}
 use Rattle.held.proofs.lists.put_exit.Statement.{statement}
 use Rattle.held.proofs.lists.put_exit.Tie as tie
 
@@ -35,23 +35,25 @@ entry-in-requires c κs =
     let pre = c .before .before .before .before .pre in
     (fits-narrow (pre .0 .fits), omega (arith, c .before .before .rows .ensures .0), pre .1)
 
+exit-in-requires : tie.Need-exit-in-requires Inv-loop μ-loop
+exit-in-requires c κs =
+    let pre = c .before .before .before .before .before .pre in
+    (pre .0 .fits, omega (arith, c .before .before .before .rows .ensures .0), pre .1)
+
 value-at-requires : tie.Need-value-at-requires Inv-loop μ-loop
-value-at-requires c κs = omega (arith, c .before .before .before .before .before .pre .0 .whole, c .entry-in .ensures .1)
+value-at-requires c κs =
+    omega (arith, c .before .before .before .before .before .before .pre .0 .whole, c .exit-in .ensures .1, c .before .entry-in .ensures .1)
 
 cast-list : tie.Need-cast-list Inv-loop μ-loop
 cast-list c = search needs
-
-exit-in-requires : tie.Need-exit-in-requires Inv-loop μ-loop
-exit-in-requires c κs =
-    let pre = c .before .before .before .before .before .before .pre in
-    (pre .0 .fits, omega (arith, c .before .before .before .before .rows .ensures .0), pre .1)
 
 mul-list : tie.Need-mul-list Inv-loop μ-loop
 mul-list c = search needs
 
 element-write-list : tie.Need-element-write-list Inv-loop μ-loop
 element-write-list c =
-    omega (arith, c .exit-in .ensures .1, c .before .before .before .before .before .before .before .pre .0 .fits .few-entries)
+    let few = c .before .before .before .before .before .before .before .pre .0 .fits .few-entries in
+    omega (arith, c .before .exit-in .ensures .1, c .before .before .entry-in .ensures .1, few)
 
 add-row : tie.Need-add-row Inv-loop μ-loop
 add-row c = search needs
@@ -65,14 +67,12 @@ loop-again c =
     let rows = c .before .before .before .before .before .rows in
     let start = c .before .before .before .before .before .before .before in
     let n = start .args .n in
-    let below : loop .row < rowsIn (n .states) (n .symbols) = omega (arith, rows .ensures .0) in (
-      omega arith,
-      rw (c .exit-in .ensures .0)
-          (padded-end _
-          (padded-step _ (exitIn (n .states) (n .symbols) (loop .row) (start .args .q)) (loop .inv .1) (omega (arith, c .exit-in .ensures .0, c .exit-in .ensures .1, start .pre .0 .fits .few-entries))
-          (c .before .value-at .ensures .0 ∙ ap (valueAt (now (start .args .block))) (c .before .before .entry-in .ensures .0) ∙ exit-value (n .states) (n .symbols) (loop .row) (start .args .q) (now (start .args .block)) below))
-          (omega arith)),
-    )
+    let exit = c .before .exit-in .ensures in
+    let entry = c .before .before .entry-in .ensures in
+    let below : loop .row < rowsIn (n .states) (n .symbols) = omega (arith, rows .ensures .0) in
+    let value = c .value-at .ensures .0 ∙ ap (valueAt (now (start .args .block))) (entry .0)
+    ∙ exit-value (n .states) (n .symbols) (loop .row) (start .args .q) (now (start .args .block)) below in
+    (omega arith, exits-more (n .states) (n .symbols) (loop .row) (start .args .q) _ (loop .inv .1) (exit .0) (omega (arith, exit .0, exit .1, start .pre .0 .fits .few-entries)) value)
 
 returns : tie.Need-returns Inv-loop μ-loop
 returns c =
@@ -88,9 +88,9 @@ put-exit-spec =
     rows-requires
     loop-holds
     entry-in-requires
+    exit-in-requires
     value-at-requires
     cast-list
-    exit-in-requires
     mul-list
     element-write-list
     add-row

@@ -2,7 +2,6 @@
 use Prim.Native.Nat.{ℕ, _*_, _≤_, _<_}
 use native.Mathlib.Nat.{mul-le-mul}
 use native.Mathlib.Omega.{arith}
-use mathlib.Core.Path.{refl}
 use Rattle.walks.proofs.Exits.{exit-below}
 use Rattle.model.proofs.sizes.Sizes.exit_place.Statement.{statement}
 use Rattle.model.proofs.sizes.Sizes.exit_place.Tie as tie
@@ -43,7 +42,7 @@ add-result-2 : tie.Need-add-result-2
 add-result-2 c = let at = c .before .before in omega (arith, of-three (q at) (s at) (g at), of-three (p at) (s at) (g at), of-two (p at) (g at), of-two (q at) (g at), of-two (z at) (s at), p at, z at)
 
 returns : tie.Need-returns
-returns c = let pre = c .before .before .pre in (refl, exit-below _ _ _ _ _ (pre .1) (pre .2) (pre .3))
+returns c = let pre = c .before .before .pre in (omega arith, omega (arith, exit-below _ _ _ _ _ (pre .1) (pre .2) (pre .3)))
 
 pub exit-place-spec : {M : Type 1} → statement M
 exit-place-spec = tie.close (tie.spec mul-result add-result mul-result-2 add-result-2 returns)
