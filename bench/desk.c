@@ -15,7 +15,7 @@
 
 enum { LINES = 100000, ORDINARY_LINES = 10000, DEAREST_LINES = 500, DELIVERY_LINES = 200, ROUNDS = 201, SHORT_ROUNDS = 21, STATES = 8, SYMBOLS = 16 };
 enum { PLAIN, DESK, SIDES };
-enum { FILINGS, QUESTIONS, UNCLEAR, COMMENTS, ORDINARY, DEAREST_FILED, DEAREST, DELIVERIES, MERGES, SCRIPTS };
+enum { FILINGS, QUESTIONS, UNCLEAR, COMMENTS, EXITS, ORDINARY, DEAREST_FILED, DEAREST, DELIVERIES, MERGES, SCRIPTS };
 
 /* A script: what it files, the script of the filings alone, how many lines follow, whether each gets a value, and how often it is run. */
 struct script {
@@ -32,6 +32,7 @@ static const struct script ALL[SCRIPTS] = {
     [QUESTIONS] = {"questions", "questions", BOTH, FILINGS, LINES, true, ROUNDS},
     [UNCLEAR] = {"unclear", "the same lines, unclear", BOTH, FILINGS, LINES, false, ROUNDS},
     [COMMENTS] = {"comments", "the same lines, comments", BOTH, FILINGS, LINES, false, ROUNDS},
+    [EXITS] = {"exits", "an exit's uppers in a row", BOTH, FILINGS, LINES, true, ROUNDS},
     [ORDINARY] = {"ordinary", "within 3, any entry", BOTH, FILINGS, ORDINARY_LINES, true, SHORT_ROUNDS},
     [DEAREST_FILED] = {"dearest-filed", "start, the dearest model", "model dearest.tab\n", DEAREST_FILED, 0, false, SHORT_ROUNDS},
     [DEAREST] = {"dearest", "within 3, dearest entry", "model dearest.tab\n", DEAREST_FILED, DEAREST_LINES, true, SHORT_ROUNDS},
@@ -71,8 +72,9 @@ static void draw_question(char *line, size_t room)
         snprintf(line, room, "margin");
 }
 
-/* The script of each kind: the filings, and then the same questions; as they are, as lines that are no call, as comments. Then questions on short runs: of any
-   entry, and of the dearest row. And deliveries, filed again and merged: the same one, so that both read the same files. */
+/* The script of each kind: the filings, and then the same questions; as they are, as lines that are no call, as comments. Then the uppers of all entries of an exit,
+   one exit after the other (request A.6). Then questions on short runs: of any entry, and of the dearest row. And deliveries, filed again and merged: the same one,
+   so that both read the same files. */
 static void write_scripts(void)
 {
     FILE *out[SCRIPTS];
@@ -88,6 +90,7 @@ static void write_scripts(void)
         fprintf(out[QUESTIONS], "%s\n", line);
         fprintf(out[UNCLEAR], "U%s\n", line + 1);
         fprintf(out[COMMENTS], "#%s\n", line + 1);
+        fprintf(out[EXITS], "upper %d %d %d\n", i / SYMBOLS % STATES, i % SYMBOLS, i / SYMBOLS / STATES % STATES);
     }
     for (int i = 0; i < ORDINARY_LINES; i++) {
         uint32_t p = drawn(STATES), z = drawn(SYMBOLS), q = drawn(STATES);
@@ -201,7 +204,7 @@ static void show(double least[SCRIPTS][SIDES])
 {
     printf("The desk: %d lines on the largest model and delivery (rich, large, ULR), without the start and the filings; the least of %d interleaved runs.\n", LINES, ROUNDS);
     show_head();
-    for (int script = QUESTIONS; script <= COMMENTS; script++)
+    for (int script = QUESTIONS; script <= EXITS; script++)
         show_row(least, script);
     show_filings(least, FILINGS);
     printf("Short runs: %d lines on the same files, %d on the dearest model known, the least of %d runs. Plain C has the rows' starts from the filing; the desk checks\n"

@@ -20,7 +20,7 @@ enum { NO_MODEL = 40, MODEL_HELD, NO_DELIVERY, NO_BLOCK, NOT_OF_MODEL, TOO_MANY_
    path of 1 byte and the newline. */
 enum { LONGEST_REPLY = 64, REPLY_ROOM = 5 * PIECE + LONGEST_REPLY };
 
-/* The register: what it holds of an accepted model, with where its rows start, and of a delivery accepted for it. */
+/* The register: what it holds of an accepted model, with where its rows start, and of a delivery accepted for it, uppers and lowers by exit (request A.6). */
 static struct {
     bool has_model, has_delivery, lowers, means;
     size_t model_len, states, symbols;
@@ -234,6 +234,23 @@ static bool holds_values(const uint32_t *numbers, const uint8_t *block, size_t c
     return e == count;
 }
 
+/* The same of a block with a record for each entry, by exit: the entries of an exit stand side by side, in the order of rows. */
+static void hold_by_exit(uint32_t *numbers, const uint8_t *block, const struct model *m)
+{
+    for (size_t q = 0; q < m->states; q++)
+        for (size_t row = 0; row < m->rows; row++)
+            numbers[q * m->rows + row] = value(block, row * m->states + q);
+}
+
+static bool holds_by_exit(const uint32_t *numbers, const uint8_t *block, const struct model *m)
+{
+    for (size_t q = 0; q < m->states; q++)
+        for (size_t row = 0; row < m->rows; row++)
+            if (numbers[q * m->rows + row] != value(block, row * m->states + q))
+                return false;
+    return true;
+}
+
 static size_t means_from(const struct model *m, struct shape shape)
 {
     return shape.lowers ? 2 * m->entries : m->entries;
@@ -242,18 +259,18 @@ static size_t means_from(const struct model *m, struct shape shape)
 /* Whether a delivery of the same shape and the same records is held. Kinds, states and symbols are those due in any that is accepted, so that the numbers tell. */
 static bool is_known(const struct model *m, const uint8_t *delivery, struct shape shape)
 {
-    if (!held.has_delivery || held.lowers != shape.lowers || held.means != shape.means || !holds_values(held.upper, delivery, m->entries))
+    if (!held.has_delivery || held.lowers != shape.lowers || held.means != shape.means || !holds_by_exit(held.upper, delivery, m))
         return false;
-    if (shape.lowers && !holds_values(held.lower, delivery + FIGURE_BYTES * m->entries, m->entries))
+    if (shape.lowers && !holds_by_exit(held.lower, delivery + FIGURE_BYTES * m->entries, m))
         return false;
     return !shape.means || holds_values(held.mean, delivery + FIGURE_BYTES * means_from(m, shape), m->rows);
 }
 
 static void hold_delivery(const struct model *m, const uint8_t *delivery, struct shape shape)
 {
-    hold_values(held.upper, delivery, m->entries);
+    hold_by_exit(held.upper, delivery, m);
     if (shape.lowers) {
-        hold_values(held.lower, delivery + FIGURE_BYTES * m->entries, m->entries);
+        hold_by_exit(held.lower, delivery + FIGURE_BYTES * m->entries, m);
         held.margin = least_share(m, delivery);
     }
     if (shape.means)
@@ -283,10 +300,12 @@ static struct shape merge_numbers(const struct model *m, uint8_t *merged, const 
     size_t lowers = FIGURE_BYTES * m->entries;
     const uint8_t *means = second + FIGURE_BYTES * means_from(m, shape);
     uint8_t *merged_means = merged + FIGURE_BYTES * means_from(m, both);
-    for (size_t e = 0; e < m->entries; e++)
-        put_value(merged, e, lesser(held.upper[e], value(second, e)));
-    for (size_t e = 0; both.lowers && e < m->entries; e++)
-        put_value(merged + lowers, e, (uint32_t)greater(held.lower[e], value(second + lowers, e)));
+    for (size_t row = 0, e = 0; row < m->rows; row++)
+        for (size_t q = 0; q < m->states; q++, e++) {
+            put_value(merged, e, lesser(held.upper[q * m->rows + row], value(second, e)));
+            if (both.lowers)
+                put_value(merged + lowers, e, (uint32_t)greater(held.lower[q * m->rows + row], value(second + lowers, e)));
+        }
     for (size_t row = 0; both.means && row < m->rows; row++)
         if (held.means && shape.means)
             put_value(merged_means, row, lesser(held.mean[row], value(means, row)));
@@ -418,7 +437,7 @@ static void ask_entry(const uint32_t *numbers, bool stands, uint32_t p, uint32_t
     if (reason != 0)
         reply_refused(reason, 0, 0);
     else
-        reply_value(numbers[(p * held.symbols + z) * held.states + q]);
+        reply_value(numbers[(q * held.states + p) * held.symbols + z]);
 }
 
 static void ask_steps(uint32_t p, uint32_t z)

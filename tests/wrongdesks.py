@@ -548,6 +548,14 @@ def margin_by(put, read):
     return {"margin": margin}
 
 
+def of_merged(margin):
+    """A desk that shows this margin while what was merged is held, which is the only one that is worked out from the lists."""
+    def merged_of(self, held, second):
+        self.merged = Desk.merged_of(self, held, second)
+        return self.merged
+    return wrong(merged_of=merged_of, margin=lambda self: (margin if self.__dict__.get("merged") == self.delivery else Desk.margin)(self))
+
+
 def merges_by(held, second):
     """The pairs stand at the same place of two lists: that of the held delivery, by the one place, and that of the second, by the other."""
     def merged_of(self, former, file):
@@ -565,6 +573,8 @@ WRONG_PLACES = {
     "held by exit and asked with the symbol before the state": wrong(**questions_by(by_exit, symbol_before_state)),
     "the margin of uppers by exit, walked in file order": wrong(**margin_by(by_exit, by_file)),
     "the margin of uppers by exit, walked with state and exit exchanged": wrong(**margin_by(by_exit, state_for_exit)),
+    "the margin of merged uppers by exit, walked in file order": of_merged(margin_by(by_exit, by_file)["margin"]),
+    "the margin of merged uppers by exit, walked with the symbol before the state": of_merged(margin_by(by_exit, symbol_before_state)["margin"]),
     "a merge of the held ones by exit with the second's in file order": wrong(**merges_by(by_exit, by_file)),
     "a merge of the held ones by exit with the second's, state and exit exchanged": wrong(**merges_by(by_exit, state_for_exit)),
     "a merge of the held ones by exit with the second's, the symbol before the state": wrong(**merges_by(by_exit, symbol_before_state)),

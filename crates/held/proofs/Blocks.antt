@@ -26,7 +26,7 @@ pub part-holds : (d : List ℕ) {n m i j : ℕ} → n ≡ i → m ≡ j → reco
     → recordBytes * m ≤ length (take (length d - recordBytes * n) (drop (recordBytes * n) d))
 part-holds d {n} start e fits = rw (part-from d {n = n} refl, length-drop (recordBytes * n) d) (omega arith)
 
--- ---- the numbers of each block, by how many records the code takes
+-- ---- the numbers of each block that follows the uppers
 
 module _ (s g : ℕ) (d : List ℕ) {l : List ℕ} {n : ℕ} where
   pub lowers-listed : entriesIn s g ≤ mostEntries → n ≡ entriesIn s g

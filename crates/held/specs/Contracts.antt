@@ -1,4 +1,4 @@
--- Lists that the code fills.
+-- Lists that the code fills, and the blocks that it fills them from.
 use Prim.Native.Nat.{ℕ, _*_, _≤_, _<_}
 use mathlib.Core.List.{List}
 use mathlib.Core.Path.{_≡_}

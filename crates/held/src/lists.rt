@@ -48,7 +48,7 @@ pub fn same(a: &[u32; MOST_ENTRIES], b: &[u32; MOST_ENTRIES], n: usize) -> bool
 }
 
 // The values of the first n records of a block, in their order.
-pub fn values(block: &[u8], n: usize) -> [u32; MOST_ENTRIES]
+pub(crate) fn values(block: &[u8], n: usize) -> [u32; MOST_ENTRIES]
     requires { ⌜ HasRecords n (now block) × (n ≤ mostEntries) ⌝ }
     ensures { λ r. ⌜ Values (now (block .entry)) n r ⌝ }
 {

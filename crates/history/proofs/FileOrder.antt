@@ -16,7 +16,6 @@ use Rattle.walks.proofs.Exits.{file-ordered, exit-ordered}
 use Rattle.ppda.specs.Equations.{Vector, entries}
 use Rattle.model.specs.Format.{mostEntries}
 use Rattle.model.specs.Records.{statesOf, symbolsOf}
-use Rattle.wellformed.specs.Verdict.{modelVerdict}
 use Rattle.delivery.specs.declared.shape.Shape.{Shape}
 use Rattle.delivery.specs.Shapes.{hasLowers, sameShape}
 use Rattle.delivery.specs.Numbers.{uppersOf, lowersOf}
@@ -32,26 +31,23 @@ use Rattle.held.proofs.Bounds.{entry-exactly}
 use Rattle.held.proofs.Listed.{held-either-way}
 use Rattle.merging.proofs.Accepted.{merged-file}
 use Rattle.merging.proofs.Held.{merged-in-order}
-use Rattle.filing.specs.Outcomes.{modelOutcome, deliveryOutcome, mergeOutcome}
+use Rattle.filing.specs.Outcomes.{deliveryOutcome, mergeOutcome}
 use Rattle.filing.specs.Known.{sameTo, sameNumbers, markBy}
 use Rattle.calls.specs.declared.Mark.the-variants.{Known, New}
-use Rattle.calls.specs.Answers.{answered, modelReply, deliveryReply, answerReply}
+use Rattle.calls.specs.Answers.{answered, deliveryReply, answerReply}
 use Rattle.calls.specs.Calls as Calls
-use Rattle.calls.specs.Calls.{Call, accepted, taken}
+use Rattle.calls.specs.Calls.{Call, taken}
 use Rattle.register.specs.declared.Register.{Register}
 use Rattle.register.specs.Filing as Filing
-use Rattle.register.specs.Filing.{withModel, modelBy, holdingNumbers, received, deliveryBy, shapeFor}
+use Rattle.register.specs.Filing.{withModel, holdingNumbers, received, deliveryBy, shapeFor}
 use Rattle.register.specs.Merging.{mergeBy, mergeDelivery}
-use Rattle.register.specs.Questions.{hasModel, upperIn, lowerIn, meanIn, marginIn, liveIn, withinIn}
-use Rattle.counter.specs.Verdict.{counterVerdict}
-use Rattle.counter.specs.Made.{counterModel}
-use Rattle.counter.specs.Filing as Counter
-use Rattle.counter.specs.Filing.{counterOutcome, counterBy}
-use Rattle.history.specs.Plain.{Pair, lastModel, lastDelivery, pairOf, ofModel, ofDelivery, ifNone, byVerdict, markOf, mergedWith, plainReply}
+use Rattle.register.specs.Questions.{upperIn, lowerIn, meanIn, marginIn, liveIn, withinIn}
+use Rattle.history.specs.Plain.{Pair, lastModel, lastDelivery, pairOf, ofModel, ofDelivery, byVerdict, markOf, mergedWith, plainReply}
 use Rattle.history.specs.Run.{replyOf, registerAfter, history, replies, holding, registerOf}
-use Rattle.history.specs.FileOrder.{numbersByFile, mergedByFile, deliveryByFile, filedByFile, mergeByFile, joinedByFile, upperByFile, lowerByFile, afterByFile, replyByFile, registerByFile, repliesByFile, SameAnswers, SameAnswersInTime}
+use Rattle.history.specs.FileOrder.{numbersByFile, mergedByFile, deliveryByFile, fileDeliveryByFile, mergeByFile, mergeDeliveryByFile, upperByFile, lowerByFile, afterByFile, replyByFile, registerByFile, repliesByFile}
+use Rattle.history.specs.ByExit.{SameAnswers, SameAnswersInTime}
 use Rattle.history.proofs.Same.{same-listed}
-use Rattle.history.proofs.Pairs.{Right, few-entries, held-length, model-right, model-held, file-held, delivery-by-verdict, merge-by-verdict, joined-is, cleared-holds, mark-taken, pairAfter}
+use Rattle.history.proofs.Pairs.{Right, WayOfHolding, as-held, model-there, file-there, model-filed, model-next, counter-filed, counter-next, few-entries, held-length, model-right, model-held, delivery-by-verdict, merge-by-verdict, joined-is, cleared-holds, mark-taken, pairAfter}
 use Rattle.history.proofs.Plain.{holds-pair, right-pair, as-plain-pair}
 
 -- ---- what is held either way
@@ -120,18 +116,19 @@ byFile none d = Filing.cleared
 byFile (some b) none = withModel b
 byFile (some b) (some d) = holdingNumbers (withModel b) b (shapeFor b d) (numbersByFile b (shapeFor b d) d) .register
 
+model-by-file : (b : List ℕ) (y : Option (List ℕ)) → byFile (some b) y .model ≡ modelHeld b
+unfolding withModel
+model-by-file b none = refl
+model-by-file b (some d) = refl
+
+held-so : WayOfHolding byFile
+held-so = record { empty = λ y. refl; alone = λ b. refl; model = model-by-file }
+
 module _ (b : List ℕ) where
-  same-model : (y : Option (List ℕ)) → byFile (some b) y .model ≡ holding (some b) y .model
-  same-model none = refl
-  same-model (some d) = refl
-
-  model-by-file : (y : Option (List ℕ)) → Right (some b) y → holdsModel (byFile (some b) y .model .length) ≡ true
-  model-by-file y right = rw (same-model y) (model-held b y right)
-
   delivery-by-file : (y : Option (List ℕ)) → Right (some b) y → (d : List ℕ)
-      → filedByFile (byFile (some b) y) d ≡ deliveryByFile (verdict b d) (byFile (some b) y) b d
-  unfolding filedByFile deliveryOutcome
-  delivery-by-file y right d = rw (model-by-file y right, same-model y, file-held b y right)
+      → fileDeliveryByFile (byFile (some b) y) d ≡ deliveryByFile (verdict b d) (byFile (some b) y) b d
+  unfolding fileDeliveryByFile deliveryOutcome
+  delivery-by-file y right d = rw (model-there held-so b y right, file-there held-so b y right)
 
   -- A delivery's mark, by what is held.
   mark-by-file : (y : Option (List ℕ)) → Right (some b) y → (d : List ℕ)
@@ -141,9 +138,9 @@ module _ (b : List ℕ) where
   mark-by-file (some e) right d = sym (marks-alike b e d (few-entries b (model-right b (some e) right)) (shapeFor b e) (shapeFor b d))
 
 module _ (b e d : List ℕ) (former : verdict b e ≡ Accepted) where
-  merge-by-verdict-by-file : joinedByFile (byFile (some b) (some e)) d ≡ mergeByFile (verdict b d) (byFile (some b) (some e)) b d
-  unfolding joinedByFile mergeOutcome
-  merge-by-verdict-by-file = rw (model-by-file b (some e) former, same-model b (some e), file-held b (some e) former)
+  merge-by-verdict-by-file : mergeDeliveryByFile (byFile (some b) (some e)) d ≡ mergeByFile (verdict b d) (byFile (some b) (some e)) b d
+  unfolding mergeDeliveryByFile mergeOutcome
+  merge-by-verdict-by-file = rw (model-there held-so b (some e) former, file-there held-so b (some e) former)
 
   -- What is held of the two deliveries makes what is held of the merged file.
   joined-by-file : verdict b d ≡ Accepted
@@ -158,9 +155,9 @@ module _ (b e d : List ℕ) (former : verdict b e ≡ Accepted) where
 -- ---- its replies are those of today's
 
 delivery-alike : (m y : Option (List ℕ)) → Right m y → (d : List ℕ)
-    → deliveryReply (filedByFile (byFile m y) d .outcome) (filedByFile (byFile m y) d .mark)
+    → deliveryReply (fileDeliveryByFile (byFile m y) d .outcome) (fileDeliveryByFile (byFile m y) d .mark)
     ≡ deliveryReply (Filing.fileDelivery (holding m y) d .outcome) (Filing.fileDelivery (holding m y) d .mark)
-unfolding filedByFile Filing.fileDelivery deliveryOutcome
+unfolding fileDeliveryByFile Filing.fileDelivery deliveryOutcome
 delivery-alike none y right d = rw cleared-holds
 delivery-alike (some b) y right d = rw (delivery-by-file b y right d, delivery-by-verdict b y right d) (go (verdict b d))
   where
@@ -171,9 +168,9 @@ delivery-alike (some b) y right d = rw (delivery-by-file b y right d, delivery-b
     go (Refused x i k) = refl
 
 merge-alike : (m y : Option (List ℕ)) → Right m y → (d : List ℕ)
-    → deliveryReply (joinedByFile (byFile m y) d .outcome) (joinedByFile (byFile m y) d .mark)
+    → deliveryReply (mergeDeliveryByFile (byFile m y) d .outcome) (mergeDeliveryByFile (byFile m y) d .mark)
     ≡ deliveryReply (mergeDelivery (holding m y) d .outcome) (mergeDelivery (holding m y) d .mark)
-unfolding joinedByFile mergeDelivery mergeOutcome withModel
+unfolding mergeDeliveryByFile mergeDelivery mergeOutcome withModel
 merge-alike none y right d = rw cleared-holds
 merge-alike (some b) none right d = rw (model-held b none right)
 merge-alike (some b) (some e) right d = rw (merge-by-verdict-by-file b e d right, merge-by-verdict b e d right) (go (verdict b d) refl)
@@ -209,19 +206,7 @@ lower-alike (some b) (some d) right p z q =
     ap (λ n. answerReply (answered (holdsModel (length b)) true (hasEntry s g p z q) (hasLowers (shapeFor b d)) n))
     (value-either-way s g (few-entries b (model-right b (some d) right)) (hasLowers (shapeFor b d)) (lowersOf s g d) p z q)
 
--- The other calls do not look at uppers and lowers.
-model-alike : (m y : Option (List ℕ)) → Right m y → (b : List ℕ)
-    → modelReply (Filing.fileModel (byFile m y) b .outcome) ≡ modelReply (Filing.fileModel (holding m y) b .outcome)
-unfolding Filing.fileModel modelOutcome
-model-alike none y right b = refl
-model-alike (some a) y right b = rw (model-by-file a y right, model-held a y right)
-
-counter-alike : (m y : Option (List ℕ)) → Right m y → (c : List ℕ)
-    → modelReply (Counter.fileCounter (byFile m y) c .outcome) ≡ modelReply (Counter.fileCounter (holding m y) c .outcome)
-unfolding Counter.fileCounter counterOutcome hasModel
-counter-alike none y right c = refl
-counter-alike (some a) y right c = rw (model-by-file a y right, model-held a y right)
-
+-- The other questions do not look at uppers and lowers.
 mean-alike : (m y : Option (List ℕ)) (p z : ℕ) → meanIn (byFile m y) p z ≡ meanIn (holding m y) p z
 unfolding meanIn numbersByFile numbersHeld
 mean-alike none y p z = refl
@@ -249,8 +234,8 @@ within-alike (some b) (some d) n p z q = refl
 reply-alike : (m y : Option (List ℕ)) → Right m y → (c : Call) → replyByFile (byFile m y) c ≡ replyOf (holding m y) c
 unfolding replyByFile replyOf
 reply-alike m y right Calls.clear = refl
-reply-alike m y right (Calls.fileModel b) = model-alike m y right b
-reply-alike m y right (Calls.fileCounter c) = counter-alike m y right c
+reply-alike m y right (Calls.fileModel b) = model-filed held-so m y right b ∙ sym (model-filed as-held m y right b)
+reply-alike m y right (Calls.fileCounter c) = counter-filed held-so m y right c ∙ sym (counter-filed as-held m y right c)
 reply-alike m y right (Calls.fileDelivery d) = delivery-alike m y right d
 reply-alike m y right (Calls.merge d) = merge-alike m y right d
 reply-alike m y right (Calls.upper p z q) = upper-alike m y right p z q
@@ -262,30 +247,6 @@ reply-alike m y right (Calls.within n p z q) = ap answerReply (within-alike m y 
 
 -- ---- it holds the next pair after a call
 
-model-next : (m y : Option (List ℕ)) → Right m y → (b : List ℕ) →
-    let t = taken (ifNone m (byVerdict (modelVerdict b) accepted)) in
-    Filing.fileModel (byFile m y) b .register ≡ byFile (cond t (some b) m) (cond t none y)
-unfolding Filing.fileModel modelOutcome
-model-next none y right b = rw cleared-holds (go (modelVerdict b))
-  where
-    go : (o : Outcome) → let t = taken (byVerdict o accepted) in modelBy o Filing.cleared b .register ≡ byFile (cond t (some b) none) (cond t none y)
-    go Accepted = refl
-    go (Refused x i k) = refl
-model-next (some a) y right b = rw (model-by-file a y right)
-
-counter-next : (m y : Option (List ℕ)) → Right m y → (c : List ℕ) →
-    let t = taken (ifNone m (byVerdict (counterVerdict c) accepted)) in
-    Counter.fileCounter (byFile m y) c .register ≡ byFile (cond t (some (counterModel c)) m) (cond t none y)
-unfolding Counter.fileCounter counterOutcome hasModel
-counter-next none y right c = rw cleared-holds (go (counterVerdict c))
-  where
-    go : (o : Outcome) →
-        let t = taken (byVerdict o accepted) in
-        counterBy o Filing.cleared c .register ≡ byFile (cond t (some (counterModel c)) none) (cond t none y)
-    go Accepted = refl
-    go (Refused x i k) = refl
-counter-next (some a) y right c = rw (model-by-file a y right)
-
 -- An accepted delivery takes the place of any before.
 replaced-by-file : (b d : List ℕ) (y : Option (List ℕ)) → deliveryByFile Accepted (byFile (some b) y) b d .register ≡ byFile (some b) (some d)
 replaced-by-file b d none = refl
@@ -293,8 +254,8 @@ replaced-by-file b d (some e) = refl
 
 delivery-next : (m y : Option (List ℕ)) → Right m y → (d : List ℕ) →
     let t = taken (ofModel m (λ b. byVerdict (verdict b d) (markOf b y d))) in
-    filedByFile (byFile m y) d .register ≡ byFile m (cond t (some d) y)
-unfolding filedByFile deliveryOutcome
+    fileDeliveryByFile (byFile m y) d .register ≡ byFile m (cond t (some d) y)
+unfolding fileDeliveryByFile deliveryOutcome
 delivery-next none y right d = rw cleared-holds
 delivery-next (some b) y right d = rw (delivery-by-file b y right d) (go (verdict b d))
   where
@@ -306,8 +267,8 @@ delivery-next (some b) y right d = rw (delivery-by-file b y right d) (go (verdic
 
 merge-next : (m y : Option (List ℕ)) → Right m y → (d : List ℕ) →
     let t = taken (ofModel m (λ b. ofDelivery y (λ e. byVerdict (verdict b d) (markOf b (some e) (merged b e d))))) in
-    joinedByFile (byFile m y) d .register ≡ byFile m (cond t (mergedWith m y d) y)
-unfolding joinedByFile mergeOutcome withModel
+    mergeDeliveryByFile (byFile m y) d .register ≡ byFile m (cond t (mergedWith m y d) y)
+unfolding mergeDeliveryByFile mergeOutcome withModel
 merge-next none y right d = rw cleared-holds
 merge-next (some b) none right d = rw (model-held b none right)
 merge-next (some b) (some e) right d = rw (merge-by-verdict-by-file b e d right) (go (verdict b d) refl)
@@ -324,8 +285,8 @@ next-alike : (x : Pair) → Right (x .model) (x .delivery) → (c : Call)
     → afterByFile (byFile (x .model) (x .delivery)) c ≡ byFile (pairAfter x c .model) (pairAfter x c .delivery)
 unfolding afterByFile plainReply
 next-alike x right Calls.clear = refl
-next-alike x right (Calls.fileModel b) = model-next (x .model) (x .delivery) right b
-next-alike x right (Calls.fileCounter c) = counter-next (x .model) (x .delivery) right c
+next-alike x right (Calls.fileModel b) = model-next held-so (x .model) (x .delivery) right b
+next-alike x right (Calls.fileCounter c) = counter-next held-so (x .model) (x .delivery) right c
 next-alike x right (Calls.fileDelivery d) = delivery-next (x .model) (x .delivery) right d
 next-alike x right (Calls.merge d) = merge-next (x .model) (x .delivery) right d
 next-alike x right (Calls.upper p z q) = refl

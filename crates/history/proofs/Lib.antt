@@ -7,6 +7,7 @@ pub mod Plain
 pub mod Known
 pub mod Replies
 pub mod FileOrder
+pub mod ByExit
 pub mod Named
 pub mod Merges
 pub mod Shown

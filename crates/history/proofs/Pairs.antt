@@ -4,7 +4,7 @@ use native.Mathlib.Omega.{arith}
 use mathlib.Core.Bool.{Bool, true, false, cond, _&&_}
 use mathlib.Core.List.{List}
 use mathlib.Core.Option.{Option, none, some}
-use mathlib.Core.Path.{_≡_, refl, ap, _∙_}
+use mathlib.Core.Path.{_≡_, refl, sym, ap, _∙_}
 use lib.Dec.{ltb, leb}
 use lib.ListN.{length}
 use Rattle.outcome.specs.declared.Outcome.{Outcome}
@@ -31,6 +31,7 @@ use Rattle.calls.specs.declared.Mark.the-variants.{Known, New}
 use Rattle.held.specs.Held.{listed, listedByExit, listedRows, ifStanding, noModel, modelHeld, numbersHeld, holdsModel}
 use Rattle.held.specs.Places.{hasRow, hasEntry, entriesByExit, rowValue, entryValue, exitValue}
 use Rattle.held.proofs.Listed.{listed-at, rows-at, filled-back}
+use Rattle.register.specs.declared.Register.{Register}
 use Rattle.register.specs.Filing as Filing
 use Rattle.filing.specs.Outcomes.{modelOutcome, fileOf, deliveryOutcome, mergeOutcome}
 use Rattle.filing.specs.Known.{markBy}
@@ -134,21 +135,42 @@ model-right b (some d) right = model-accepted b .1 (delivery-accepted b d .0 rig
 pub model-held-right : {m : Option (List ℕ)} {b : List ℕ} (y : Option (List ℕ)) → Right m y → m ≡ some b → modelVerdict b ≡ Accepted
 model-held-right {b = b} y right held = model-right b y (rw held at right)
 
+pub cleared-holds : holdsModel (Filing.cleared .model .length) ≡ false
+unfolding Filing.cleared noModel holdsModel
+cleared-holds = refl
+
+-- A way of holding pairs: with no model a cleared register, with a model alone the register of it, and with a model and whatever is held of a delivery one that has
+-- the model.
+pub record WayOfHolding (at : Option (List ℕ) → Option (List ℕ) → Register) : Type 0 where
+  pub empty : (y : Option (List ℕ)) → at none y ≡ Filing.cleared
+  pub alone : (b : List ℕ) → at (some b) none ≡ withModel b
+  pub model : (b : List ℕ) (y : Option (List ℕ)) → at (some b) y .model ≡ modelHeld b
+
 model-of-pair : (b : List ℕ) (y : Option (List ℕ)) → holding (some b) y .model ≡ modelHeld b
 unfolding withModel
 model-of-pair b none = refl
 model-of-pair b (some d) = refl
 
+pub as-held : WayOfHolding holding
+as-held = record { empty = λ y. refl; alone = λ b. refl; model = model-of-pair }
+
+module _ {at : Option (List ℕ) → Option (List ℕ) → Register} (way : WayOfHolding at) (b : List ℕ) (y : Option (List ℕ)) (right : Right (some b) y) where
+  pub model-there : holdsModel (at (some b) y .model .length) ≡ true
+  unfolding modelHeld
+  model-there = rw (way .model b y) (held-length b (model-right b y right))
+
+  pub file-there : fileOf (at (some b) y .model) ≡ b
+  unfolding fileOf modelHeld
+  file-there =
+      let records = size b (model-right b y right) .file .records in
+      rw (way .model b y) (filled-back mostBytes b (omega (arith, records .most, records .whole)))
+
 module _ (b : List ℕ) (y : Option (List ℕ)) (right : Right (some b) y) where
   pub model-held : holdsModel (holding (some b) y .model .length) ≡ true
-  unfolding modelHeld
-  model-held = rw (model-of-pair b y) (held-length b (model-right b y right))
+  model-held = model-there as-held b y right
 
   pub file-held : fileOf (holding (some b) y .model) ≡ b
-  unfolding fileOf modelHeld
-  file-held =
-      let records = size b (model-right b y right) .file .records in
-      rw (model-of-pair b y) (filled-back mostBytes b (omega (arith, records .most, records .whole)))
+  file-held = file-there as-held b y right
 
   pub delivery-by-verdict : (d : List ℕ) → Filing.fileDelivery (holding (some b) y) d ≡ deliveryBy (verdict b d) (holding (some b) y) b d
   unfolding Filing.fileDelivery deliveryOutcome
@@ -273,31 +295,53 @@ module _ (b e d : List ℕ) (former : verdict b e ≡ Accepted) where
 
 -- ---- the replies of a register that holds the pair of m and y
 
-pub cleared-holds : holdsModel (Filing.cleared .model .length) ≡ false
-unfolding Filing.cleared noModel holdsModel
-cleared-holds = refl
-
-module _ (y : Option (List ℕ)) where
-  model-filed : (m : Option (List ℕ)) → Right m y → (b : List ℕ)
-      → modelReply (Filing.fileModel (holding m y) b .outcome) ≡ ifNone m (byVerdict (modelVerdict b) accepted)
+-- Filing a model or a counter file looks at the held model alone, so that it goes so with any way of holding.
+module _ {at : Option (List ℕ) → Option (List ℕ) → Register} (way : WayOfHolding at) where
+  pub model-filed : (m y : Option (List ℕ)) → Right m y → (b : List ℕ)
+      → modelReply (Filing.fileModel (at m y) b .outcome) ≡ ifNone m (byVerdict (modelVerdict b) accepted)
   unfolding Filing.fileModel modelOutcome
-  model-filed none right b = rw cleared-holds (go (modelVerdict b))
+  model-filed none y right b = rw (way .empty y, cleared-holds) (go (modelVerdict b))
     where
       go : (o : Outcome) → modelReply (modelBy o Filing.cleared b .outcome) ≡ byVerdict o accepted
       go Accepted = refl
       go (Refused x i k) = refl
-  model-filed (some a) right b = rw (model-held a y right)
+  model-filed (some a) y right b = rw (model-there way a y right)
 
-  counter-filed : (m : Option (List ℕ)) → Right m y → (c : List ℕ)
-      → modelReply (Counter.fileCounter (holding m y) c .outcome) ≡ ifNone m (byVerdict (counterVerdict c) accepted)
+  pub model-next : (m y : Option (List ℕ)) → Right m y → (b : List ℕ) →
+      let t = taken (ifNone m (byVerdict (modelVerdict b) accepted)) in
+      Filing.fileModel (at m y) b .register ≡ at (cond t (some b) m) (cond t none y)
+  unfolding Filing.fileModel modelOutcome
+  model-next none y right b = rw (way .empty y, cleared-holds) (go (modelVerdict b))
+    where
+      go : (o : Outcome) → let t = taken (byVerdict o accepted) in modelBy o Filing.cleared b .register ≡ at (cond t (some b) none) (cond t none y)
+      go Accepted = sym (way .alone b)
+      go (Refused x i k) = sym (way .empty y)
+  model-next (some a) y right b = rw (model-there way a y right)
+
+  pub counter-filed : (m y : Option (List ℕ)) → Right m y → (c : List ℕ)
+      → modelReply (Counter.fileCounter (at m y) c .outcome) ≡ ifNone m (byVerdict (counterVerdict c) accepted)
   unfolding Counter.fileCounter counterOutcome hasModel
-  counter-filed none right c = rw cleared-holds (go (counterVerdict c))
+  counter-filed none y right c = rw (way .empty y, cleared-holds) (go (counterVerdict c))
     where
       go : (o : Outcome) → modelReply (counterBy o Filing.cleared c .outcome) ≡ byVerdict o accepted
       go Accepted = refl
       go (Refused x i k) = refl
-  counter-filed (some a) right c = rw (model-held a y right)
+  counter-filed (some a) y right c = rw (model-there way a y right)
 
+  pub counter-next : (m y : Option (List ℕ)) → Right m y → (c : List ℕ) →
+      let t = taken (ifNone m (byVerdict (counterVerdict c) accepted)) in
+      Counter.fileCounter (at m y) c .register ≡ at (cond t (some (counterModel c)) m) (cond t none y)
+  unfolding Counter.fileCounter counterOutcome hasModel
+  counter-next none y right c = rw (way .empty y, cleared-holds) (go (counterVerdict c))
+    where
+      go : (o : Outcome) →
+          let t = taken (byVerdict o accepted) in
+          counterBy o Filing.cleared c .register ≡ at (cond t (some (counterModel c)) none) (cond t none y)
+      go Accepted = sym (way .alone (counterModel c))
+      go (Refused x i k) = sym (way .empty y)
+  counter-next (some a) y right c = rw (model-there way a y right)
+
+module _ (y : Option (List ℕ)) where
   delivery-filed : (m : Option (List ℕ)) → Right m y → (d : List ℕ)
       → deliveryReply (Filing.fileDelivery (holding m y) d .outcome) (Filing.fileDelivery (holding m y) d .mark)
       ≡ ofModel m (λ b. byVerdict (verdict b d) (markOf b y d))
@@ -370,8 +414,8 @@ within-of-pair (some b) y right n p z q = within-reply b y right n p z q
 pub reply-of-pair : (x : Pair) → Right (x .model) (x .delivery) → (c : Call) → replyOf (registerOf x) c ≡ plainReply x c
 unfolding replyOf plainReply registerOf
 reply-of-pair x right clear = refl
-reply-of-pair x right (fileModel b) = model-filed (x .delivery) (x .model) right b
-reply-of-pair x right (fileCounter c) = counter-filed (x .delivery) (x .model) right c
+reply-of-pair x right (fileModel b) = model-filed as-held (x .model) (x .delivery) right b
+reply-of-pair x right (fileCounter c) = counter-filed as-held (x .model) (x .delivery) right c
 reply-of-pair x right (fileDelivery d) = delivery-filed (x .delivery) (x .model) right d
 reply-of-pair x right (merge d) = merge-of-pair (x .model) (x .delivery) right d
 reply-of-pair x right (upper p z q) = upper-of-pair (x .model) (x .delivery) right p z q
@@ -396,34 +440,26 @@ pub record Next (x : Pair) (c : Call) : Type 0 where
   pub right : Right (pairAfter x c .model) (pairAfter x c .delivery)
 
 module _ (y : Option (List ℕ)) where
-  model-after : (m : Option (List ℕ)) → Right m y → (b : List ℕ) →
+  model-right-after : (m : Option (List ℕ)) → Right m y → (b : List ℕ) →
       let t = taken (ifNone m (byVerdict (modelVerdict b) accepted)) in
-      (Filing.fileModel (holding m y) b .register ≡ holding (cond t (some b) m) (cond t none y)) × Right (cond t (some b) m) (cond t none y)
-  unfolding Filing.fileModel modelOutcome
-  model-after none right b = rw cleared-holds (go (modelVerdict b) refl)
+      Right (cond t (some b) m) (cond t none y)
+  model-right-after none right b = go (modelVerdict b) refl
     where
-      go : (o : Outcome) → modelVerdict b ≡ o →
-          let t = taken (byVerdict o accepted) in
-          (modelBy o Filing.cleared b .register ≡ holding (cond t (some b) none) (cond t none y)) × Right (cond t (some b) none) (cond t none y)
-      go Accepted e = (refl, e)
-      go (Refused x i k) e = (refl, right)
-  model-after (some a) right b = (rw (model-held a y right), right)
+      go : (o : Outcome) → modelVerdict b ≡ o → let t = taken (byVerdict o accepted) in Right (cond t (some b) none) (cond t none y)
+      go Accepted e = e
+      go (Refused x i k) e = right
+  model-right-after (some a) right b = right
 
   -- The model that an accepted counter file makes is accepted.
-  counter-after : (m : Option (List ℕ)) → Right m y → (c : List ℕ) →
+  counter-right-after : (m : Option (List ℕ)) → Right m y → (c : List ℕ) →
       let t = taken (ifNone m (byVerdict (counterVerdict c) accepted)) in
-      (Counter.fileCounter (holding m y) c .register ≡ holding (cond t (some (counterModel c)) m) (cond t none y))
-      × Right (cond t (some (counterModel c)) m) (cond t none y)
-  unfolding Counter.fileCounter counterOutcome hasModel
-  counter-after none right c = rw cleared-holds (go (counterVerdict c) refl)
+      Right (cond t (some (counterModel c)) m) (cond t none y)
+  counter-right-after none right c = go (counterVerdict c) refl
     where
-      go : (o : Outcome) → counterVerdict c ≡ o →
-          let t = taken (byVerdict o accepted) in
-          (counterBy o Filing.cleared c .register ≡ holding (cond t (some (counterModel c)) none) (cond t none y))
-          × Right (cond t (some (counterModel c)) none) (cond t none y)
-      go Accepted e = (refl, made-accepted c e)
-      go (Refused x i k) e = (refl, right)
-  counter-after (some a) right c = (rw (model-held a y right), right)
+      go : (o : Outcome) → counterVerdict c ≡ o → let t = taken (byVerdict o accepted) in Right (cond t (some (counterModel c)) none) (cond t none y)
+      go Accepted e = made-accepted c e
+      go (Refused x i k) e = right
+  counter-right-after (some a) right c = right
 
   delivery-after : (m : Option (List ℕ)) → Right m y → (d : List ℕ) →
       let t = taken (ofModel m (λ b. byVerdict (verdict b d) (markOf b y d))) in
@@ -459,8 +495,10 @@ merge-after (some b) (some e) right d = rw (merge-by-verdict b e d right) (go (v
 pub next-of-pair : (x : Pair) → Right (x .model) (x .delivery) → (c : Call) → Next x c
 unfolding afterCall plainReply registerOf
 next-of-pair x right clear = record { held = refl; right = refl }
-next-of-pair x right (fileModel b) = let (held, again) = model-after (x .delivery) (x .model) right b in record { held = held; right = again }
-next-of-pair x right (fileCounter c) = let (held, again) = counter-after (x .delivery) (x .model) right c in record { held = held; right = again }
+next-of-pair x right (fileModel b) =
+    record { held = model-next as-held (x .model) (x .delivery) right b; right = model-right-after (x .delivery) (x .model) right b }
+next-of-pair x right (fileCounter c) =
+    record { held = counter-next as-held (x .model) (x .delivery) right c; right = counter-right-after (x .delivery) (x .model) right c }
 next-of-pair x right (fileDelivery d) = let (held, again) = delivery-after (x .delivery) (x .model) right d in record { held = held; right = again }
 next-of-pair x right (merge d) = let (held, again) = merge-after (x .model) (x .delivery) right d in record { held = held; right = again }
 next-of-pair x right (upper p z q) = record { held = refl; right = right }

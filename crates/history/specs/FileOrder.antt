@@ -1,10 +1,9 @@
--- The register as it was before request A.6: it holds uppers and lowers in the order of files, where today's holds them by exit. This page has what differs, in the
--- words of that time, and the replies of such a register through any list of calls. No code runs it; the statements at its end say that every answer equals that
--- under this order, and theorems `same-answers` and `same-answers-in-time` prove them.
+-- The register as it was before request A.6: it holds uppers and lowers in the order of files, where today's holds them by exit. This page has what differs, with the
+-- bodies of that time under names that end in ByFile (of `deliveryBy`, `fileDelivery`, `mergeBy`, `mergeDelivery`, `upperIn`, `lowerIn`, `afterCall`, `replyOf`), and the
+-- replies of such a register through any list of calls. No code runs it; the page `ByExit` says that every answer equals that under this order.
 use Prim.Native.Nat.{ℕ}
 use mathlib.Core.Bool.{true, cond, _&&_}
 use mathlib.Core.List.{List, [], _∷_}
-use mathlib.Core.Path.{_≡_}
 use Rattle.outcome.specs.declared.Outcome.{Outcome}
 use Rattle.outcome.specs.declared.Outcome.the-variants.{Accepted, Refused}
 use Rattle.walks.specs.Order.{entriesIn, rowsIn}
@@ -32,7 +31,6 @@ use Rattle.register.specs.declared.Received.{Received}
 use Rattle.register.specs.Filing.{cleared, turnedAway, shapeFor, holdingNumbers, fileModel}
 use Rattle.register.specs.Questions.{meanIn, marginIn, liveIn, withinIn}
 use Rattle.counter.specs.Filing.{fileCounter}
-use Rattle.history.specs.Run.{replyTo, replies}
 
 -- ---- what was held of a delivery
 
@@ -68,8 +66,8 @@ abbrev pub deliveryByFile : Outcome → Register → List ℕ → List ℕ → R
 deliveryByFile Accepted r b d = holdingNumbers r b (shapeFor b d) (numbersByFile b (shapeFor b d) d)
 deliveryByFile (Refused x i k) r b d = turnedAway r (Refused x i k)
 
-unfoldable pub filedByFile : Register → List ℕ → Received
-filedByFile r d = deliveryByFile (deliveryOutcome (r .model) d) r (fileOf (r .model)) d
+unfoldable pub fileDeliveryByFile : Register → List ℕ → Received
+fileDeliveryByFile r d = deliveryByFile (deliveryOutcome (r .model) d) r (fileOf (r .model)) d
 
 -- Merging with the delivery d for the held model b, by the outcome.
 abbrev pub mergeByFile : Outcome → Register → List ℕ → List ℕ → Received
@@ -78,8 +76,8 @@ mergeByFile Accepted r b d =
     (mergedByFile b (shapeHeld (r .delivery)) (r .numbers) (shapeFor b d) (numbersByFile b (shapeFor b d) d))
 mergeByFile (Refused x i k) r b d = turnedAway r (Refused x i k)
 
-unfoldable pub joinedByFile : Register → List ℕ → Received
-joinedByFile r d = mergeByFile (mergeOutcome (r .model) (r .delivery) d) r (fileOf (r .model)) d
+unfoldable pub mergeDeliveryByFile : Register → List ℕ → Received
+mergeDeliveryByFile r d = mergeByFile (mergeOutcome (r .model) (r .delivery) d) r (fileOf (r .model)) d
 
 -- An entry's upper, and its lower.
 unfoldable pub upperByFile : Register → ℕ → ℕ → ℕ → Answer
@@ -99,8 +97,8 @@ unfoldable pub afterByFile : Register → Call → Register
 afterByFile r Calls.clear = cleared
 afterByFile r (Calls.fileModel b) = fileModel r b .register
 afterByFile r (Calls.fileCounter c) = fileCounter r c .register
-afterByFile r (Calls.fileDelivery d) = filedByFile r d .register
-afterByFile r (Calls.merge d) = joinedByFile r d .register
+afterByFile r (Calls.fileDelivery d) = fileDeliveryByFile r d .register
+afterByFile r (Calls.merge d) = mergeDeliveryByFile r d .register
 afterByFile r (Calls.upper p z q) = r
 afterByFile r (Calls.lower p z q) = r
 afterByFile r (Calls.meanSteps p z) = r
@@ -112,8 +110,8 @@ unfoldable pub replyByFile : Register → Call → Reply
 replyByFile r Calls.clear = Calls.cleared
 replyByFile r (Calls.fileModel b) = modelReply (fileModel r b .outcome)
 replyByFile r (Calls.fileCounter c) = modelReply (fileCounter r c .outcome)
-replyByFile r (Calls.fileDelivery d) = deliveryReply (filedByFile r d .outcome) (filedByFile r d .mark)
-replyByFile r (Calls.merge d) = deliveryReply (joinedByFile r d .outcome) (joinedByFile r d .mark)
+replyByFile r (Calls.fileDelivery d) = deliveryReply (fileDeliveryByFile r d .outcome) (fileDeliveryByFile r d .mark)
+replyByFile r (Calls.merge d) = deliveryReply (mergeDeliveryByFile r d .outcome) (mergeDeliveryByFile r d .mark)
 replyByFile r (Calls.upper p z q) = answerReply (upperByFile r p z q)
 replyByFile r (Calls.lower p z q) = answerReply (lowerByFile r p z q)
 replyByFile r (Calls.meanSteps p z) = answerReply (meanIn r p z)
@@ -129,12 +127,3 @@ registerByFile (c ∷ cs) = afterByFile (registerByFile cs) c
 unfoldable pub repliesByFile : Register → List Call → List Reply
 repliesByFile r [] = []
 repliesByFile r (c ∷ cs) = replyByFile r c ∷ repliesByFile (afterByFile r c) cs
-
--- ---- request A.6: "every answer is proved equal to that under the old order"
-
--- After any list of calls, latest first, to one call more; and to calls in the order of time, from an empty register.
-abbrev pub SameAnswers : List Call → Type 0
-SameAnswers cs = (c : Call) → replyTo cs c ≡ replyByFile (registerByFile cs) c
-
-abbrev pub SameAnswersInTime : List Call → Type 0
-SameAnswersInTime cs = replies cleared cs ≡ repliesByFile cleared cs

@@ -4,7 +4,7 @@ use native.Mathlib.Omega.{arith}
 use mathlib.Core.Bool.{Bool, true, false, cond, _&&_}
 use mathlib.Core.List.{List}
 use mathlib.Core.Logic.{_⊎_, inl, inr}
-use mathlib.Core.Path.{_≡_, _∙_}
+use mathlib.Core.Path.{_≡_, ap₂, _∙_}
 use lib.ListN.{getD}
 use Rattle.outcome.specs.declared.Outcome.the-variants.{Accepted}
 use Rattle.walks.specs.Order.{rowsIn, entriesIn, AtEntries}
@@ -36,7 +36,7 @@ use Rattle.merging.proofs.Lists.{block-uppers}
 
 module _ (s g : ℕ) (former : Numbers) (d : List ℕ) {n : ℕ} {b r : List ℕ} where
   pub uppers-found : n ≡ entriesIn s g → b ≡ listedByExit s g (uppersOf s g d) → r ≡ keptTo Smaller n (former .uppers) b → r ≡ uppersMerged s g former d
-  uppers-found e second is = is ∙ rw (e, second)
+  uppers-found e second is = is ∙ ap₂ (λ k l. keptTo Smaller k (former .uppers) l) e second
 
   module _ (h k : Shape) where
     pub lowers-found : (hasLowers h && hasLowers k) ≡ true → n ≡ entriesIn s g → b ≡ ifStanding (hasLowers k) (listedByExit s g (lowersOf s g d))

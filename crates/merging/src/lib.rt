@@ -21,9 +21,10 @@ ghost use Rattle.model.specs.Format.{mostEntries};
 ghost use Rattle.model.specs.Contracts.{Fits, Sized};
 ghost use Rattle.delivery.specs.Shapes.{hasLowers, hasMeans};
 ghost use Rattle.delivery.specs.Merged.{shapeWith, mergedShape};
-ghost use Rattle.delivery.specs.Contracts.{HasRecords, ShapedFile};
+ghost use Rattle.delivery.specs.Contracts.{ShapedFile};
 ghost use Rattle.certificate.specs.Contracts.{AcceptedFile};
 ghost use Rattle.held.specs.Held.{numbersHeld};
+ghost use Rattle.held.specs.Contracts.{HasEntries};
 ghost use Rattle.merging.specs.Numbers.{kept, keptTo, marginIn, numbersMerged};
 ghost use Rattle.merging.specs.Contracts.{uppersMerged, lowersMerged, meansMerged, ChancesListed, Holds};
 
@@ -98,7 +99,7 @@ fn kept_of(
 
 // The smaller uppers of those that are held and those of the file.
 fn merged_uppers(former: Numbers, file: &[u8], n: Sizes) -> [u32; MOST_ENTRIES]
-    requires { ⌜ Fits (n .states) (n .symbols) × HasRecords (entriesIn (n .states) (n .symbols)) (now file) ⌝ }
+    requires { ⌜ HasEntries n (now file) ⌝ }
     ensures { λ r. ⌜ r ≡ uppersMerged (n .states) (n .symbols) former (now (file .entry)) ⌝ }
 {
     let held = former.uppers;

@@ -14,7 +14,7 @@ ghost use Rattle.model.specs.Records.{recordsOf, stateNamed, symbolNamed
 ghost use Rattle.model.specs.Contracts.{HasRecord, Narrow, Fits, SizesTo};
 ghost use Rattle.model.specs.Sizes.{sizesOf};
 
-// The numbers of states and symbols. Rows (p, Z) and entries (p, Z, q) are numbered in the order of files; the register holds some entries by exit.
+// The numbers of states and symbols. Rows (p, Z) and entries (p, Z, q) are numbered in the order of files; in a list by exit an entry has another place.
 pub struct Sizes {
     pub states: usize,
     pub symbols: usize,

@@ -55,7 +55,7 @@ withinAnswer h b n p z q =
     answeredOr (holdsModel (h .length)) true (hasEntry (h .states) (h .symbols) p z q) (fewSteps n) TooManySteps
     (shortChance (take (h .length) b) n p z q)
 
--- The lists of numbers, by their places: live marks, uppers, lowers and mean steps.
+-- The lists of numbers, by their places: live marks and mean steps in the order of files, uppers and lowers by exit (request A.6).
 abbrev pub marksAt : ℕ
 marksAt = 0
 

@@ -23,7 +23,7 @@ shownOf r = record {
   margin = r .numbers .margin;
 }
 
--- The lists of numbers: live marks, uppers, lowers and mean steps.
+-- The lists of numbers: live marks and mean steps in the order of files, uppers and lowers by exit (request A.6).
 abbrev pub listsOf : Register → List (List ℕ)
 listsOf r = r .model .live ∷ r .numbers .uppers ∷ r .numbers .lowers ∷ r .numbers .means ∷ []
 

@@ -3,8 +3,8 @@ use Prim.Native.Nat.{ℕ, _+_, _*_}
 use mathlib.Core.List.{List, [], _∷_}
 
 -- An entry as one number: its p, Z and q are the digits.
-abbrev pub written : ℕ → ℕ → ℕ → ℕ
-written p z q = p * 100 + z * 10 + q
+abbrev pub asDigits : ℕ → ℕ → ℕ → ℕ
+asDigits p z q = p * 100 + z * 10 + q
 
 -- Its entries in the order of places.
 abbrev pub exitsInOrder : List ℕ

@@ -1,9 +1,8 @@
 -- `block_of`: after each turn the records of one row more have the listed uppers as values, and the others 0.
-use Prim.Native.Nat.{ℕ, _-_, _*_, _≤_}
+use Prim.Native.Nat.{_-_, _*_, _≤_}
 use native.Mathlib.Omega.{arith}
 use mathlib.Core.Path.{_≡_, refl, ap, _∙_}
 use borrow.Author.Needs.{needs}
-use Rattle.walks.specs.Order.{rowsIn, entriesIn}
 use Rattle.merging.specs.Contracts.{Holds}
 use Rattle.merging.proofs.Lists.{holds-none, holds-end}
 use Rattle.merging.proofs.block_of.Statement.{statement}

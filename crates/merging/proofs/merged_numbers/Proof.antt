@@ -10,7 +10,7 @@ use Rattle.merging.proofs.merged_numbers.Tie as tie
 merged-uppers-requires : tie.Need-merged-uppers-requires
 merged-uppers-requires c κs =
     let file = c .before .before .pre .file in
-    (sized-fits (file .sized), uppers-fit _ _ _ _ (file .of))
+    record { fits = sized-fits (file .sized); whole = uppers-fit _ _ _ _ (file .of) }
 
 merged-lowers-requires : tie.Need-merged-lowers-requires
 merged-lowers-requires c κs = let file = c .before .before .before .pre .file in record { fits = sized-fits (file .sized); of = file .of }

@@ -6,7 +6,7 @@ use Rattle.merging.proofs.merged_uppers.Statement.{statement}
 use Rattle.merging.proofs.merged_uppers.Tie as tie
 
 values-by-exit-requires : tie.Need-values-by-exit-requires
-values-by-exit-requires c κs = let pre = c .before .before .pre in record { fits = pre .0; whole = pre .1 }
+values-by-exit-requires c κs = c .before .before .pre
 
 entries-requires : tie.Need-entries-requires
 entries-requires c κs = search needs

@@ -20,7 +20,7 @@ all-exits : (s g : ℕ) {q : ℕ} → q ≡ s → q * rowsIn s g ≡ entriesIn s
 all-exits s g e = rw e (omega arith)
 
 loop-holds : tie.Need-loop-holds Inv-loop μ-loop
-loop-holds c = (search needs, padded-end _ (padded-none _ _ refl) (omega arith))
+loop-holds c = (omega (arith, c .before .pre .fits .some-states), padded-end _ (padded-none _ _ refl) (omega arith))
 
 put-exit-requires : tie.Need-put-exit-requires Inv-loop μ-loop
 put-exit-requires c κs = (c .before .before .before .before .pre, c .before .loop-test .taken, c .before .before .loop .inv .1)
