@@ -298,11 +298,11 @@ next-alike x right (Calls.within n p z q) = refl
 
 -- ---- any list of calls
 
-held-by-file : (cs : List Call) → registerByFile cs ≡ byFile (lastModel (history cs)) (lastDelivery (history cs))
+pair-by-file : (cs : List Call) → registerByFile cs ≡ byFile (lastModel (history cs)) (lastDelivery (history cs))
 unfolding registerByFile history lastModel lastDelivery
-held-by-file [] = refl
-held-by-file (c ∷ cs) =
-    rw (as-plain-pair cs c) (ap (λ r. afterByFile r c) (held-by-file cs) ∙ next-alike (pairOf (history cs)) (right-pair cs) c)
+pair-by-file [] = refl
+pair-by-file (c ∷ cs) =
+    rw (as-plain-pair cs c) (ap (λ r. afterByFile r c) (pair-by-file cs) ∙ next-alike (pairOf (history cs)) (right-pair cs) c)
 
 -- Every answer equals that under the order of files.
 pub same-answers : (cs : List Call) → SameAnswers cs
@@ -310,7 +310,7 @@ unfolding registerOf
 same-answers cs c =
     ap (λ r. replyOf r c) (holds-pair cs)
     ∙ sym (reply-alike (lastModel (history cs)) (lastDelivery (history cs)) (right-pair cs) c)
-    ∙ sym (ap (λ r. replyByFile r c) (held-by-file cs))
+    ∙ sym (ap (λ r. replyByFile r c) (pair-by-file cs))
 
 from-here : (past cs : List Call) → replies (registerAfter past) cs ≡ repliesByFile (registerByFile past) cs
 unfolding replies repliesByFile registerAfter registerByFile

@@ -1,6 +1,7 @@
 -- The register as it was before request A.6: it holds uppers and lowers in the order of files, where today's holds them by exit. This page has what differs, with the
--- bodies of that time under names that end in ByFile (of `deliveryBy`, `fileDelivery`, `mergeBy`, `mergeDelivery`, `upperIn`, `lowerIn`, `afterCall`, `replyOf`), and the
--- replies of such a register through any list of calls. No code runs it; the page `ByExit` says that every answer equals that under this order.
+-- bodies of that time under names that end in ByFile: of `numbersHeld`, `marginIn` and `numbersMerged`, of `deliveryBy`, `fileDelivery`, `mergeBy`, `mergeDelivery`,
+-- `upperIn` and `lowerIn`, in which what they cite is written out, of `afterCall`, `replyOf`, `registerAfter` and `replies`. No code runs it; the page `ByExit` says that
+-- every answer equals that under this order.
 use Prim.Native.Nat.{ℕ}
 use mathlib.Core.Bool.{true, cond, _&&_}
 use mathlib.Core.List.{List, [], _∷_}

@@ -3,6 +3,6 @@
 pub mod Plain
 pub mod Run
 pub mod FileOrder
-pub mod ByExit
 pub mod Mission
+pub mod ByExit
 pub mod Edges

@@ -264,7 +264,7 @@ impl Register {
         View { shown, bytes }
     }
 
-    // Its lists of numbers.
+    // Its lists of numbers: live marks and mean steps in the order of files, uppers and lowers by exit (request A.6).
     pub fn lists(self) -> [[u32; MOST_ENTRIES]; LISTS]
         ensures { λ r. ⌜ r ≡ listsOf self ⌝ }
     {
