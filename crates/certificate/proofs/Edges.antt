@@ -147,6 +147,10 @@ pub w-said : rulesOf wFile ≡ w
 unfolding rulesOf listTo ruleOf recordsOf field weight wordAt
 w-said = refl
 
+pub w-states : statesOf wFile ≡ 2
+unfolding statesOf greatestTo recordsOf field
+w-states = refl
+
 -- And they are the bytes made of them.
 pub w-made : madeModel w ≡ wFile
 unfolding madeModel

@@ -13,6 +13,7 @@ use Rattle.ppda.specs.Bounds.{LowersHold}
 use Rattle.ppda.proofs.Upper.{upper-holds}
 use Rattle.ppda.proofs.Lower.{lower-holds}
 use Rattle.ppda.proofs.Mean.{mean-holds}
+use Rattle.ppda.proofs.Tail.{tail-holds}
 use Rattle.model.specs.Records.{statesOf, symbolsOf}
 use Rattle.model.specs.Rules.{rulesOf}
 use Rattle.model.proofs.Accepted.{is-model}
@@ -66,6 +67,7 @@ module _ (b d : List ℕ) (x : RightFiles b d) where
     uppers = upper-holds _ _ _ _ (model-of b d x) (uppers-of b d x);
     lowers = λ has. lower-holds _ _ _ _ _ (model-of b d x) (uppers-of b d x) (lowers-of b d x has);
     means = λ has. mean-holds _ _ _ _ _ (model-of b d x) (uppers-of b d x) (means-of b d x has);
+    tails = λ has. tail-holds _ _ _ _ _ (model-of b d x) (uppers-of b d x) (means-of b d x has);
   }
 
   pub right-true : TrueOfRuns b d

@@ -25,6 +25,10 @@ pub queue-said : movesOf queueFile ≡ queue
 unfolding movesOf listTo moveOf movesIn byteIn weightIn wordAt
 queue-said = refl
 
+pub queue-states : statesIn queueFile ≡ 2
+unfolding statesIn greatestTo movesIn byteIn
+queue-states = refl
+
 pub queue-made : counterModel queueFile ≡ queueModel
 unfolding counterModel madeModel rulesFor movesOf listTo moveOf movesIn byteIn weightIn wordAt
 queue-made = refl

@@ -4,19 +4,20 @@ use mathlib.Core.List.{List}
 use mathlib.Core.Path.{_≡_, sym, ap, subst, _∙_}
 use Rattle.ppda.specs.Chances.{chance, mean}
 use Rattle.ppda.specs.Equations.{Vector, f}
-use Rattle.ppda.specs.Bounds.{UpperHolds, LowerHolds, MeanHolds}
+use Rattle.ppda.specs.Bounds.{UpperHolds, LowerHolds, MeanHolds, TailHolds}
+use Rattle.model.specs.Records.{statesOf}
 use Rattle.model.specs.Rules.{rulesOf}
 use Rattle.onecounter.specs.Passage.{firstPassage, meanMoves}
 use Rattle.onecounter.specs.Equation.{passageSide}
-use Rattle.onecounter.specs.Promised.{PassageUpper, PassageLower, PassageMean}
+use Rattle.onecounter.specs.Promised.{PassageUpper, PassageLower, PassageMean, PassageTail}
 use Rattle.onecounter.proofs.Passage.{passage-is-chance, moves-are-steps}
 use Rattle.onecounter.proofs.Equation.{equation-19}
-use Rattle.onecounter.proofs.Promised.{passage-upper, passage-lower, passage-mean}
+use Rattle.onecounter.proofs.Promised.{passage-upper, passage-lower, passage-mean, passage-tail}
 use Rattle.counter.specs.Records.{statesIn}
 use Rattle.counter.specs.Moves.{movesOf}
 use Rattle.counter.specs.Accepted.{CounterFile}
 use Rattle.counter.specs.Made.{counterModel}
-use Rattle.counter.proofs.Made.{made-rules}
+use Rattle.counter.proofs.Made.{made-rules, made-states}
 
 module _ (c : List ℕ) (file : CounterFile c) where
   -- "The chance of first reaching zero in v from count 1 within n moves equals the model's chance" (request A.2), and the mean of moves the model's mean.
@@ -41,3 +42,6 @@ module _ (c : List ℕ) (file : CounterFile c) where
 
   pub passage-mean-of-file : (u r : ℕ) → MeanHolds (rulesOf (counterModel c)) u 0 r → PassageMean (movesOf c) u r
   passage-mean-of-file u r h = passage-mean (movesOf c) u r (subst (λ m. MeanHolds m u 0 r) (made-rules c file) h)
+
+  pub passage-tail-of-file : (u r : ℕ) → TailHolds (rulesOf (counterModel c)) (statesOf (counterModel c)) u 0 r → PassageTail (movesOf c) (statesIn c) u r
+  passage-tail-of-file u r h = passage-tail (movesOf c) u (statesIn c) r (rw (made-rules c file, made-states c file) at h)

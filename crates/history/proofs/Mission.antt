@@ -11,8 +11,8 @@ use Rattle.history.proofs.Merges.{merge-taken, merge-held, merge-known,
 use Rattle.history.proofs.Sharpens.{merge-sharpens}
 use Rattle.history.proofs.Replies.{replies-as-plain}
 use Rattle.history.proofs.Named.{number-listed, model-named, counter-named, delivery-named}
-use Rattle.history.proofs.Shown.{upper-shown, lower-shown, mean-shown, live-shown, short-shown, short-under-upper}
-use Rattle.history.proofs.Passages.{passage-upper-shown, passage-lower-shown, passage-mean-shown, passage-short-shown}
+use Rattle.history.proofs.Shown.{upper-shown, lower-shown, mean-shown, tail-shown, live-shown, short-shown, short-under-upper}
+use Rattle.history.proofs.Passages.{passage-upper-shown, passage-lower-shown, passage-mean-shown, passage-tail-shown, passage-short-shown}
 
 pub mission : (cs : List Call) → Mission cs
 mission cs = record {
@@ -43,8 +43,10 @@ mission cs = record {
   merges-sharpen = merge-sharpens cs;
   short-chances-true = short-shown cs;
   short-chances-under-uppers = short-under-upper cs;
+  tails-true = tail-shown cs;
   passage-uppers-true = passage-upper-shown cs;
   passage-lowers-true = passage-lower-shown cs;
   passage-means-true = passage-mean-shown cs;
+  passage-tails-true = passage-tail-shown cs;
   short-passages-true = passage-short-shown cs;
 }

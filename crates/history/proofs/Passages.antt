@@ -7,20 +7,21 @@ use mathlib.Core.Path.{_≡_, sym, ap, subst, _∙_}
 use Rattle.walks.specs.Sums.{sum, sumTo}
 use Rattle.walks.specs.Lists.{lists}
 use Rattle.ppda.specs.Chances.{chance}
-use Rattle.ppda.specs.Bounds.{UpperHolds, LowerHolds, MeanHolds}
+use Rattle.ppda.specs.Bounds.{UpperHolds, LowerHolds, MeanHolds, TailHolds}
+use Rattle.model.specs.Records.{statesOf}
 use Rattle.model.specs.Rules.{rulesOf}
 use Rattle.onecounter.specs.Moves.{afterMoves, weighMoves}
 use Rattle.onecounter.specs.Passage.{overMoves, overMovesWithin, firstPassage}
-use Rattle.onecounter.specs.Promised.{PassageUpper, PassageLower, PassageMean}
+use Rattle.onecounter.specs.Promised.{PassageUpper, PassageLower, PassageMean, PassageTail}
 use Rattle.onecounter.specs.Edges.{queue}
-use Rattle.onecounter.proofs.Edges.{upper-bites, lower-bites, lower-bites-without-margin, mean-bites}
+use Rattle.onecounter.proofs.Edges.{upper-bites, lower-bites, lower-bites-without-margin, mean-bites, tail-bites}
 use Rattle.counter.specs.Edges.{queueFile}
-use Rattle.counter.proofs.Passage.{passage-of-file, passage-upper-of-file, passage-lower-of-file, passage-mean-of-file}
-use Rattle.counter.proofs.Edges.{queue-said}
+use Rattle.counter.proofs.Passage.{passage-of-file, passage-upper-of-file, passage-lower-of-file, passage-mean-of-file, passage-tail-of-file}
+use Rattle.counter.proofs.Edges.{queue-said, queue-states}
 use Rattle.calls.specs.Calls.{Call, upper, lower, meanSteps, margin, within, Reply, value}
 use Rattle.history.specs.Run.{replyTo}
-use Rattle.history.specs.Mission.{HoldsCounter, PassageUpperShown, PassageLowerShown, PassageMeanShown, PassageShortShown}
-use Rattle.history.proofs.Shown.{upper-shown, lower-shown, mean-shown, short-shown}
+use Rattle.history.specs.Mission.{HoldsCounter, PassageUpperShown, PassageLowerShown, PassageMeanShown, PassageTailShown, PassageShortShown}
+use Rattle.history.proofs.Shown.{upper-shown, lower-shown, mean-shown, tail-shown, short-shown}
 
 -- The model of which a number is shown is the one that is held.
 one-model : {m : Option (List ℕ)} {a b : List ℕ} → m ≡ some a → m ≡ some b → a ≡ b
@@ -49,6 +50,11 @@ passage-mean-shown cs c u r at e =
     let (b, held, holds) = mean-shown cs u 0 r e in
     passage-mean-of-file c (at .file) u r (subst (λ m. MeanHolds (rulesOf m) u 0 r) (one-model held (at .held)) holds)
 
+pub passage-tail-shown : (cs : List Call) → PassageTailShown cs
+passage-tail-shown cs c u r at e =
+    let (b, held, holds) = tail-shown cs u 0 r e in
+    passage-tail-of-file c (at .file) u r (subst (λ m. TailHolds (rulesOf m) (statesOf m) u 0 r) (one-model held (at .held)) holds)
+
 pub passage-short-shown : (cs : List Call) → PassageShortShown cs
 passage-short-shown cs c n u v x at e =
     let (b, held, same, few) = short-shown cs n u 0 v x e in
@@ -72,6 +78,10 @@ module _ (cs : List Call) (at : HoldsCounter cs queueFile) where
   -- Its mean of moves counted to 3 is 1.875, and any figure that is shown is at least that.
   pub passage-mean-bites : (r : ℕ) → PassageMeanShown cs → replyTo cs (meanSteps 0 0) ≡ value r → 480 ≤ r
   passage-mean-bites r shown asked = mean-bites r (subst (λ m. PassageMean m 0 r) queue-said (shown queueFile 0 r at asked))
+
+  -- 3/8 of its runs have not reached zero within 2 moves, and any figure that is shown is at least 2 × 3/8 of a move.
+  pub passage-tail-bites : (r : ℕ) → PassageTailShown cs → replyTo cs (meanSteps 0 0) ≡ value r → 192 ≤ r
+  passage-tail-bites r shown asked = tail-bites r (rw (queue-said, queue-states) at (shown queueFile 0 r at asked))
 
   -- A lower, with the upper and the margin that are shown: a margin of 1/2, and one shown as 0.
   pub lower-said : (l a b : ℕ) → PassageLowerShown cs → replyTo cs (lower 0 0 0) ≡ value l → replyTo cs (upper 0 0 0) ≡ value a

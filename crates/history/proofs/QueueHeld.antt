@@ -34,10 +34,10 @@ use Rattle.counter.specs.Moves.{moveOf, movesOf}
 use Rattle.counter.specs.Verdict.{wholeMoves, moveInRange, moveAscends, moveTests, stateSum, stateTests, counterTests, counterVerdict}
 use Rattle.counter.specs.Made.{counterModel}
 use Rattle.counter.specs.Edges.{queueFile}
-use Rattle.counter.proofs.Edges.{queue-said}
+use Rattle.counter.proofs.Edges.{queue-said, queue-states}
 use Rattle.onecounter.specs.Passage.{firstPassage}
 use Rattle.onecounter.specs.Edges.{queue}
-use Rattle.onecounter.specs.Promised.{PassageUpper, PassageLower, PassageMean}
+use Rattle.onecounter.specs.Promised.{PassageUpper, PassageLower, PassageMean, PassageTail}
 use Rattle.calls.specs.Calls.{Call, fileCounter, fileDelivery, upper, lower, meanSteps, within, Reply, accepted, new, value}
 use Rattle.calls.specs.Calls as Calls
 use Rattle.history.specs.Plain.{Event, pairOf, lastModel, lastDelivery, sameDelivery, plainReply}
@@ -116,6 +116,12 @@ pub queue-mean : PassageMean queue 0 2048
 queue-mean =
     subst (λ m. PassageMean m 0 2048) queue-said
     (mission both .passage-means-true queueFile 0 2048 queue-held (shown (meanSteps 0 0) (value 2048) (computed .mean-asked)))
+
+-- Within n moves all but 8/n are back at zero.
+pub queue-tail : PassageTail queue 2 0 2048
+queue-tail =
+    rw (queue-said, queue-states) at
+    (mission both .passage-tails-true queueFile 0 2048 queue-held (shown (meanSteps 0 0) (value 2048) (computed .mean-asked)))
 
 pub queue-short : 162727720910848 ≡ firstPassage queue 3 0 0
 queue-short =

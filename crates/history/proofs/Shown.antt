@@ -1,22 +1,25 @@
 -- Mission point 3 for what the questions answer after any list of calls: a number that is answered is one of files that are held and
 -- accepted, and is true of the runs of the held model.
-use Prim.Native.Nat.{ℕ, _≤_, _<_}
+use Prim.Native.Nat.{ℕ, _+_, _*_, _^_, _≤_, _<_}
 use native.Mathlib.Omega.{arith}
 use mathlib.Core.Bool.{Bool, true, false, cond, _&&_}
 use mathlib.Core.List.{List, flatMap}
 use mathlib.Core.Option.{Option, none, some}
-use mathlib.Core.Path.{_≡_, refl, sym, ap, _∙_}
+use mathlib.Core.Path.{_≡_, refl, sym, ap, subst, _∙_}
 use lib.Dec.{ltb, leb}
 use borrow.Author.Tests.{lt-ltb}
 use Rattle.outcome.specs.declared.Outcome.the-variants.{Accepted}
 use Rattle.walks.proofs.Exactly.{lt-exactly, le-exactly, both}
 use Rattle.walks.specs.Sums.{sum, sumTo}
+use Rattle.walks.specs.Order.{AtRows}
 use Rattle.ppda.specs.Rules.{fits}
 use Rattle.walks.specs.Lists.{lists}
 use Rattle.ppda.specs.Runs.{after, weigh, overRuns, overRunsWithin}
-use Rattle.ppda.specs.Chances.{chanceFrom, chance}
-use Rattle.ppda.specs.Bounds.{UpperHolds, MeanHolds}
+use Rattle.ppda.specs.Chances.{chanceFrom, chance, returnedWithin}
+use Rattle.ppda.specs.Bounds.{UpperHolds, MeanHolds, TailHolds}
 use Rattle.ppda.proofs.Marks.{alive-is-bit}
+use Rattle.ppda.proofs.Tail.{window-enough}
+use Rattle.ppda.proofs.WHolds.{tail-bites}
 use Rattle.model.specs.Records.{statesOf, symbolsOf}
 use Rattle.model.specs.Rules.{rulesOf}
 use Rattle.model.specs.W.{wFile}
@@ -30,12 +33,13 @@ use Rattle.verdict.specs.Marks.{liveMark}
 use Rattle.verdict.proofs.Marks.{live-marks-by-runs}
 use Rattle.verdict.specs.Verdict.{verdict}
 use Rattle.certificate.specs.Margin.{marginOf}
-use Rattle.certificate.proofs.Edges.{w-said}
+use Rattle.certificate.specs.Promised.{TrueFor}
+use Rattle.certificate.proofs.Edges.{w-said, w-states}
 use Rattle.certificate.proofs.Holds.{accepted-true, true-of-shape}
 use Rattle.calls.specs.Calls.{Call, upper, lower, meanSteps, margin, live, within, Reply, value, refusal}
 use Rattle.history.specs.Plain.{lastModel, lastDelivery, ofModel, ofDelivery, ofBlock, atEntry, atRow, toThree, plainReply}
 use Rattle.history.specs.Run.{replyTo, history}
-use Rattle.history.specs.Mission.{Holds, UpperShown, LowerHeld, LowerShown, MeanShown, LiveShown, ShortShown, ShortUnderUpper}
+use Rattle.history.specs.Mission.{Holds, UpperShown, LowerHeld, LowerShown, MeanShown, TailShown, LiveShown, ShortShown, ShortUnderUpper}
 use Rattle.history.proofs.Pairs.{lowerReply, meanReply, Right, model-held-right}
 use Rattle.history.proofs.Plain.{right-pair, as-plain-pair}
 
@@ -128,12 +132,15 @@ module _ {cs : List Call} {b d : List ℕ} (files : Files cs b d) where
         holds = rw same at (true-of-shape b d h (files .accepted) shape .lowers has p z q hp hz hq);
       }
 
-  mean-of : (p z r : ℕ) → atRow b p z (meanReply b d p z) ≡ value r → MeanHolds (rulesOf b) p z r
-  mean-of p z r e =
+  -- What holds of the row and its figure in the delivery holds of the figure that is answered.
+  figure-of : (P : ℕ → ℕ → ℕ → Type 0)
+      → ((h : Shape) → TrueFor b d (statesOf b) (symbolsOf b) h → hasMeans h ≡ true → AtRows (statesOf b) (symbolsOf b) (λ p z. P p z (meansOf (statesOf b) (symbolsOf b) h d p z)))
+      → (p z r : ℕ) → atRow b p z (meanReply b d p z) ≡ value r → P p z r
+  figure-of P holds p z r e =
       let (hp, hz, inner) = row-asked (statesOf b) (symbolsOf b) p z (meanReply b d p z) e in
       let (h, shape, has, reply) = block-asked hasMeans (shapeOf (statesOf b) (symbolsOf b) d) _ inner in
       let same : meansOf (statesOf b) (symbolsOf b) h d p z ≡ r = cc in
-      rw same at (true-of-shape b d h (files .accepted) shape .means has p z hp hz)
+      subst (P p z) same (holds h (true-of-shape b d h (files .accepted) shape) has p z hp hz)
 
 -- ---- point 3, after any list of calls
 
@@ -154,7 +161,13 @@ pub mean-shown : (cs : List Call) → MeanShown cs
 unfolding plainReply
 mean-shown cs p z r e =
     let (b, d, files, reply) = files-asked cs (λ b d. atRow b p z (meanReply b d p z)) (sym (as-plain-pair cs (meanSteps p z)) ∙ e) in
-    (b, files .model, mean-of files p z r reply)
+    (b, files .model, figure-of files (MeanHolds (rulesOf b)) (λ h holds. holds .means) p z r reply)
+
+pub tail-shown : (cs : List Call) → TailShown cs
+unfolding plainReply
+tail-shown cs p z r e =
+    let (b, d, files, reply) = files-asked cs (λ b d. atRow b p z (meanReply b d p z)) (sym (as-plain-pair cs (meanSteps p z)) ∙ e) in
+    (b, files .model, figure-of files (TailHolds (rulesOf b) (statesOf b)) (λ h holds. holds .tails) p z r reply)
 
 live-bit : (b : List ℕ) (p z q : ℕ) → modelVerdict b ≡ Accepted → liveMark b p z q ≤ 1
 unfolding liveMark
@@ -202,3 +215,19 @@ short-shown-bites cs c shown held asked =
     let (b, again, same, few) = shown 3 0 0 0 c asked in
     let one : b ≡ wFile = cc in
     same ∙ ap (λ f. chance (rulesOf f) 3 0 0 0) one ∙ ap (λ m. chance m 3 0 0 0) w-said
+
+-- ---- what the tail says to who books a window
+
+-- Booked n steps with n at least r/(1 − share), the share a/(a + d) is back: 100 times the mean for 99 in 100.
+pub window-booked : (cs : List Call) (p z r n a d : ℕ) → TailShown cs → replyTo cs (meanSteps p z) ≡ value r → 0 < n → r * (a + d) ≤ n * 2 ^ 8 * d
+    → (b : List ℕ) × Holds cs b × (a * 65536 ^ n ≤ (a + d) * returnedWithin (rulesOf b) (statesOf b) n p z)
+window-booked cs p z r n a d shown asked at-least-one enough =
+    let (b, held, holds) = shown p z r asked in
+    (b, held, window-enough n (returnedWithin (rulesOf b) (statesOf b) n p z) r a d at-least-one (holds n) enough)
+
+-- Where W is held, a figure that is shown of row (0, 0) is half a step or more: 1/4 of its runs are not back within 2 steps.
+pub tail-shown-bites : (cs : List Call) (r : ℕ) → TailShown cs → Holds cs wFile → replyTo cs (meanSteps 0 0) ≡ value r → 128 ≤ r
+tail-shown-bites cs r shown held asked =
+    let (b, again, holds) = shown 0 0 r asked in
+    let one : b ≡ wFile = cc in
+    tail-bites r (rw (one, w-said, w-states) at holds)

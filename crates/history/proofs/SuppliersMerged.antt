@@ -9,7 +9,8 @@ use mathlib.Core.Option.{none, some}
 use mathlib.Core.Path.{_≡_, refl, sym, subst, _∙_}
 use lib.IntN.{ℤ}
 use Rattle.words.specs.Words.{Bytes}
-use Rattle.ppda.specs.Bounds.{UpperHolds, MeanHolds}
+use Rattle.ppda.specs.Bounds.{UpperHolds, MeanHolds, TailHolds}
+use Rattle.model.specs.Records.{statesOf}
 use Rattle.model.specs.Rules.{rulesOf}
 use Rattle.delivery.specs.Merged.{merged}
 use Rattle.verdict.specs.Verdict.{deliveryTests}
@@ -90,6 +91,13 @@ module _ (cs : List Call) (b e d : List ℕ) (free : lastModel (history cs) ≡ 
       let (a, held, holds) = mission both .means-true p z t is in
       let same : a ≡ b = let x : some a ≡ some b = sym held ∙ beside-both in cc in
       (mission filed .merges-sharpen d .means p z r t was is, subst (λ m. MeanHolds (rulesOf m) p z t) same holds)
+
+  -- So is their tail, by the smaller mean steps.
+  pub suppliers-tail : (p z t : ℕ) → replyTo both (meanSteps p z) ≡ value t → TailHolds (rulesOf b) (statesOf b) p z t
+  suppliers-tail p z t is =
+      let (a, held, holds) = mission both .tails-true p z t is in
+      let same : a ≡ b = let x : some a ≡ some b = sym held ∙ beside-both in cc in
+      subst (λ m. TailHolds (rulesOf m) (statesOf m) p z t) same holds
 
   pub suppliers-margin : (m n : ℕ) → replyTo filed margin ≡ value m → replyTo both margin ≡ value n → min m (marginOf b d) ≤ n
   suppliers-margin m n was is = mission filed .merges-sharpen d .margins b m n beside-first was is

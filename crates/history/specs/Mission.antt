@@ -13,7 +13,8 @@ use Rattle.walks.specs.Sums.{In}
 use Rattle.words.specs.Words.{Bytes}
 use Rattle.ppda.specs.Chances.{chance}
 use Rattle.ppda.specs.Live.{isLive, Live}
-use Rattle.ppda.specs.Bounds.{AtMostUpper, UpperHolds, LowerHolds, MeanHolds}
+use Rattle.ppda.specs.Bounds.{AtMostUpper, UpperHolds, LowerHolds, MeanHolds, TailHolds}
+use Rattle.model.specs.Records.{statesOf}
 use Rattle.model.specs.Rules.{rulesOf}
 use Rattle.model.specs.Accepted.{ModelFile}
 use Rattle.wellformed.specs.Verdict.{modelTests}
@@ -22,7 +23,8 @@ use Rattle.verdict.specs.Verdict.{deliveryTests}
 use Rattle.verdict.specs.Accepted.{RightFiles}
 use Rattle.certificate.specs.Margin.{marginOf}
 use Rattle.onecounter.specs.Passage.{firstPassage}
-use Rattle.onecounter.specs.Promised.{PassageUpper, PassageLower, PassageMean}
+use Rattle.onecounter.specs.Promised.{PassageUpper, PassageLower, PassageMean, PassageTail}
+use Rattle.counter.specs.Records.{statesIn}
 use Rattle.counter.specs.Moves.{movesOf}
 use Rattle.counter.specs.Verdict.{counterTests}
 use Rattle.counter.specs.Accepted.{CounterFile}
@@ -180,6 +182,10 @@ LowerShown cs = (p z q l : ℕ) → replyTo cs (lower p z q) ≡ value l → Low
 abbrev pub MeanShown : List Call → Type 0
 MeanShown cs = (p z r : ℕ) → replyTo cs (meanSteps p z) ≡ value r → (b : List ℕ) × Holds cs b × MeanHolds (rulesOf b) p z r
 
+-- Request A.7: where mean steps r are shown of a row, for every n the chances of having returned within n steps, summed over all exits, come to at least 1 − r/n.
+abbrev pub TailShown : List Call → Type 0
+TailShown cs = (p z r : ℕ) → replyTo cs (meanSteps p z) ≡ value r → (b : List ℕ) × Holds cs b × TailHolds (rulesOf b) (statesOf b) p z r
+
 -- Request A.5: of the uppers, lowers and mean steps that are shown before a merge with d and after it, none is less sharp after it; and a margin that is shown both
 -- times is at least the smaller of the one before and that of d. (It may be smaller than the one before; lowers and margin are gone where d has no lowers.)
 pub record MergeSharpens (cs : List Call) (d : List ℕ) : Type 0 where
@@ -223,6 +229,9 @@ PassageLowerShown cs = (c : List ℕ) (u v l : ℕ) → HoldsCounter cs c → re
 
 abbrev pub PassageMeanShown : List Call → Type 0
 PassageMeanShown cs = (c : List ℕ) (u r : ℕ) → HoldsCounter cs c → replyTo cs (meanSteps u 0) ≡ value r → PassageMean (movesOf c) u r
+
+abbrev pub PassageTailShown : List Call → Type 0
+PassageTailShown cs = (c : List ℕ) (u r : ℕ) → HoldsCounter cs c → replyTo cs (meanSteps u 0) ≡ value r → PassageTail (movesOf c) (statesIn c) u r
 
 abbrev pub PassageShortShown : List Call → Type 0
 PassageShortShown cs =
@@ -269,8 +278,11 @@ pub record Mission (cs : List Call) : Type 0 where
   -- So are the chances of short runs, and they keep to the uppers (request A.1).
   pub short-chances-true : ShortShown cs
   pub short-chances-under-uppers : ShortUnderUpper cs
-  -- Where the held model is the one that a counter file makes, uppers, lowers, mean steps and short chances are true of first passage to zero (request A.2).
+  -- How long until nearly all are back: within n steps at least 1 − r/n, for the mean steps r that are shown (request A.7).
+  pub tails-true : TailShown cs
+  -- Where the held model is the one that a counter file makes, uppers, lowers, mean steps with their tail and short chances are true of first passage to zero (request A.2).
   pub passage-uppers-true : PassageUpperShown cs
   pub passage-lowers-true : PassageLowerShown cs
   pub passage-means-true : PassageMeanShown cs
+  pub passage-tails-true : PassageTailShown cs
   pub short-passages-true : PassageShortShown cs

@@ -12,7 +12,7 @@ use Rattle.onecounter.specs.Moves.{afterMoves, weighMoves}
 use Rattle.onecounter.specs.Passage.{overMoves, overMovesWithin, firstPassage, meanMoves}
 use Rattle.onecounter.specs.Pushing.{rulesFor}
 use Rattle.onecounter.specs.Equation.{coefficient, passageSide}
-use Rattle.onecounter.specs.Promised.{PassageUpper, PassageLower, PassageMean}
+use Rattle.onecounter.specs.Promised.{PassageUpper, PassageLower, PassageMean, PassageTail}
 use Rattle.onecounter.specs.Edges.{queue, passages, passagesDue, meansOfMoves, meansDue, sides, sidesDue}
 
 -- A push of d symbols 0 for each shift d.
@@ -43,6 +43,11 @@ upper-bites a h = omega (arith, h 3)
 pub mean-bites : (r : ℕ) → PassageMean queue 0 r → 480 ≤ r
 unfolding meanMoves overMovesWithin overMoves sumTo sum lists flatMap afterMoves weighMoves
 mean-bites r h = omega (arith, h 3)
+
+-- 3/8 of the calm queue's runs have not reached zero within 2 moves, and any tail by r that holds has 2 × 3/8 of a move at least.
+pub tail-bites : (r : ℕ) → PassageTail queue 2 0 r → 192 ≤ r
+unfolding firstPassage overMovesWithin overMoves sumTo sum lists flatMap afterMoves weighMoves
+tail-bites r h = omega (arith, h 2)
 
 -- With a margin of 1/2 and one round: l is at most 1/2 plus half of a. With a margin of 1 and two rounds: l is at most the chance within 3 moves.
 pub lower-bites : (l a : ℕ) → PassageLower queue 0 0 l a 524288 → 2 * l ≤ 1048576 + a

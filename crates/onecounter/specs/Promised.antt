@@ -1,9 +1,10 @@
 -- What mission point 3 promises of first passage to zero: the inequalities of crate ppda (`Bounds`), of a machine's runs instead of a model's.
 use Prim.Native.Nat.{ℕ, _-_}
 use mathlib.Core.List.{List}
+use Rattle.walks.specs.Sums.{sumTo}
 use Rattle.ppda.specs.Units.{chanceUnit}
 use Rattle.ppda.specs.Margin.{whole, kept}
-use Rattle.ppda.specs.Bounds.{stepsOf, AtMostUpper, AtLeastLower, AtMostMean}
+use Rattle.ppda.specs.Bounds.{stepsOf, AtMostUpper, AtLeastLower, AtMostMean, AtLeastTail}
 use Rattle.onecounter.specs.Moves.{Move}
 use Rattle.onecounter.specs.Passage.{firstPassage, meanMoves}
 
@@ -23,3 +24,7 @@ pub record PassageLower (m : List Move) (u v l a b : ℕ) : Type 0 where
 -- Every mean of moves counted to n is at most the figure r.
 abbrev pub PassageMean : List Move → ℕ → ℕ → Type 0
 PassageMean m u r = (n : ℕ) → AtMostMean n (meanMoves m n u) r
+
+-- The chances of first reaching zero within n moves, in whichever of the s states, come to at least 1 − r/n (request A.7).
+abbrev pub PassageTail : List Move → ℕ → ℕ → ℕ → Type 0
+PassageTail m s u r = (n : ℕ) → AtLeastTail n (sumTo (λ v. firstPassage m n u v) s) r

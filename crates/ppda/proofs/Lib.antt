@@ -17,6 +17,8 @@ pub mod Merging
 pub mod Rounds
 pub mod Mass
 pub mod Mean
+pub mod Tail
 pub mod Bounds
 pub mod WHolds
+pub mod TwoSteps
 pub mod Example

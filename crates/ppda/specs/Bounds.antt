@@ -7,7 +7,7 @@ use mathlib.Core.Path.{_≡_}
 use Rattle.walks.specs.Order.{AtRows, AtEntries}
 use Rattle.ppda.specs.Units.{weightUnit, chanceUnit, mostChance, stepUnit, sumUnit}
 use Rattle.ppda.specs.Rules.{Rule}
-use Rattle.ppda.specs.Chances.{chance, mean}
+use Rattle.ppda.specs.Chances.{chance, returnedWithin, mean}
 use Rattle.ppda.specs.Equations.{Vector, RowVector, f, meanSide}
 use Rattle.ppda.specs.Live.{isLive, alive}
 use Rattle.ppda.specs.Margin.{whole, kept}
@@ -77,6 +77,16 @@ AtMostMean n x r = x * stepUnit ≤ r * weightUnit ^ n
 abbrev pub MeanHolds : List Rule → ℕ → ℕ → ℕ → Type 0
 MeanHolds m p z r = (n : ℕ) → AtMostMean n (mean m n p z) r
 
+-- The tail of request A.7 ("tail" is its term): chances c within n steps, summed over all exits, come to at least 1 − r/n for the figure r. c counts 1/65,536^n, r counts
+-- 1/2^8. Of n = 0 it says nothing, nor of an n of at most r steps.
+abbrev pub AtLeastTail : ℕ → ℕ → ℕ → Type 0
+AtLeastTail n c r = n * stepUnit * weightUnit ^ n ≤ n * stepUnit * c + r * weightUnit ^ n
+
+-- "For every n of at least 1 the chances of having returned within n steps, summed over all exits, come to at least 1 − r/n": of the row (p, z) of a model with s states,
+-- for the figure r.
+abbrev pub TailHolds : List Rule → ℕ → ℕ → ℕ → ℕ → Type 0
+TailHolds m s p z r = (n : ℕ) → AtLeastTail n (returnedWithin m s n p z) r
+
 -- ---- and of every entry and row of a certificate, with its margin a
 
 abbrev pub UppersHold : List Rule → ℕ → ℕ → Vector → Type 0
@@ -87,3 +97,6 @@ LowersHold m s g u l a = AtEntries s g (λ p z q. LowerHolds m p z q (l p z q) (
 
 abbrev pub MeansHold : List Rule → ℕ → ℕ → RowVector → Type 0
 MeansHold m s g r = AtRows s g (λ p z. MeanHolds m p z (r p z))
+
+abbrev pub TailsHold : List Rule → ℕ → ℕ → RowVector → Type 0
+TailsHold m s g r = AtRows s g (λ p z. TailHolds m s p z (r p z))

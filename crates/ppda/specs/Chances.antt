@@ -5,7 +5,7 @@ use mathlib.Core.List.{List, [], _∷_, _++_}
 use mathlib.Core.Option.{Option, none, some}
 use lib.Dec.{eqb}
 use lib.ListN.{length}
-use Rattle.walks.specs.Sums.{bit}
+use Rattle.walks.specs.Sums.{bit, sumTo}
 use Rattle.ppda.specs.Units.{weightUnit}
 use Rattle.ppda.specs.Rules.{Rule, overRow, pushed}
 use Rattle.ppda.specs.Runs.{Config, at, overRuns, overRunsWithin}
@@ -36,6 +36,11 @@ chanceFrom m n p σ q = overRunsWithin (λ l c. returnedIn q c) m n p σ
 -- of document 001.
 abbrev pub chance : List Rule → ℕ → ℕ → ℕ → ℕ → ℕ
 chance m n p z q = chanceFrom m n p (z ∷ []) q
+
+-- The chances of having returned within n steps from row (p, z), summed over all exits of a model with s states (request A.7). They come to the chance of the runs
+-- that have returned at all (law `returned-by-exits`).
+abbrev pub returnedWithin : List Rule → ℕ → ℕ → ℕ → ℕ → ℕ
+returnedWithin m s n p z = sumTo (λ q. chance m n p z q) s
 
 -- The same chance by its first step, as for a Markov chain of configurations. It equals `chanceFrom` (theorem `chance-by-step`).
 unfoldable pub chanceByStep : List Rule → ℕ → ℕ → List ℕ → ℕ → ℕ

@@ -16,7 +16,7 @@ use Rattle.ppda.specs.Rules.{fits, overRow}
 use Rattle.ppda.specs.Equations.{f, meanSide}
 use Rattle.ppda.specs.Live.{mark, isLive, alive}
 use Rattle.ppda.specs.Margin.{share, shareAt, margin}
-use Rattle.ppda.specs.Bounds.{UpperHolds, LowerHolds, MeanHolds}
+use Rattle.ppda.specs.Bounds.{UpperHolds, LowerHolds, MeanHolds, TailHolds}
 use Rattle.model.specs.Records.{recordsOf, field, weight, statesOf, symbolsOf}
 use Rattle.model.specs.Rules.{ruleOf, rulesOf, rowOf, rowSum}
 use Rattle.model.specs.W.{wFile}
@@ -95,3 +95,7 @@ lower-learnt =
 pub mean-learnt : MeanHolds (rulesOf wFile) 0 0 512
 unfolding numberIn numberAfter
 mean-learnt = reader wFile (wDelivery 524288 512) .steps _ _ _ steps-stand
+
+pub tail-learnt : TailHolds (rulesOf wFile) (statesOf wFile) 0 0 512
+unfolding numberIn numberAfter
+tail-learnt = reader wFile (wDelivery 524288 512) .tails _ _ _ steps-stand

@@ -8,18 +8,19 @@ use mathlib.Core.Path.{_≡_, refl, ap, _∙_}
 use lib.IntN.{ℤ}
 use borrow.Author.Tests.{lt-ltb}
 use Rattle.walks.specs.Sums.{In}
-use Rattle.walks.specs.Order.{rowsIn}
+use Rattle.walks.specs.Order.{rowsIn, AtRows}
 use Rattle.walks.proofs.Places.{row-of}
 use Rattle.outcome.specs.declared.Outcome.{Outcome}
 use Rattle.outcome.specs.declared.Outcome.the-variants.{Accepted, Refused}
 use Rattle.outcome.specs.Reasons.{numberOf}
-use Rattle.ppda.specs.Bounds.{UpperHolds, LowerHolds, MeanHolds}
+use Rattle.ppda.specs.Bounds.{UpperHolds, LowerHolds, MeanHolds, TailHolds}
 use Rattle.ppda.proofs.Margin.{margin-le-top}
 use Rattle.model.specs.Records.{statesOf, symbolsOf, recordsOf}
 use Rattle.model.specs.Rules.{rulesOf}
 use Rattle.model.specs.Contracts.{Fits}
 use Rattle.model.proofs.Records.{sizes-fit}
 use Rattle.wellformed.specs.Verdict.{modelVerdict}
+use Rattle.delivery.specs.declared.shape.Shape.{Shape}
 use Rattle.delivery.specs.Shapes.{hasLowers, hasMeans}
 use Rattle.delivery.specs.Numbers.{uppersOf, lowersOf, meansOf}
 use Rattle.verdict.specs.Verdict.{verdict}
@@ -162,14 +163,15 @@ module _ (b d : List ℕ) where
         by-shape false has written m e =
             absurd (written (el ∙ ap shown (lower-is p z q hp hz hq ∙ ap (λ t. in-block t (lowersOf (statesOf b) (symbolsOf b) d p z q)) has)))
 
-    steps-of : (p z r : ℕ) (wp wz wr : List ℕ) → p < statesOf b → z < symbolsOf b → wp ≡ decimal p → wz ≡ decimal z → wr ≡ decimal r
-        → asked b d (meanSteps p z) ≡ value r → MeanHolds (rulesOf b) (numberIn wp) (numberIn wz) (numberIn wr)
-    steps-of p z r wp wz wr hp hz ep ez er reply = by-shape (hasMeans (right .shaped)) refl
+    -- What holds of each row and its figure in the delivery holds of the line's.
+    steps-of : (P : ℕ → ℕ → ℕ → Type 0) → (hasMeans (right .shaped) ≡ true → AtRows (statesOf b) (symbolsOf b) (λ p z. P p z (meansOf (statesOf b) (symbolsOf b) (right .shaped) d p z)))
+        → (p z r : ℕ) (wp wz wr : List ℕ) → p < statesOf b → z < symbolsOf b → wp ≡ decimal p → wz ≡ decimal z → wr ≡ decimal r
+        → asked b d (meanSteps p z) ≡ value r → P (numberIn wp) (numberIn wz) (numberIn wr)
+    steps-of P holds p z r wp wz wr hp hz ep ez er reply = by-shape (hasMeans (right .shaped)) refl
       where
-        by-shape : (t : Bool) → hasMeans (right .shaped) ≡ t → MeanHolds (rulesOf b) (numberIn wp) (numberIn wz) (numberIn wr)
+        by-shape : (t : Bool) → hasMeans (right .shaped) ≡ t → P (numberIn wp) (numberIn wz) (numberIn wr)
         by-shape true has =
-            rw (read-back wp p ep (omega (arith, fits .few-states)), read-back wz z ez (omega (arith, fits .few-symbols)), nr)
-            (true-of-shape b d (right .shaped) is (right .delivery .shape) .means has p z hp hz)
+            rw (read-back wp p ep (omega (arith, fits .few-states)), read-back wz z ez (omega (arith, fits .few-symbols)), nr) (holds has p z hp hz)
           where
             nr : numberIn wr ≡ meansOf (statesOf b) (symbolsOf b) (right .shaped) d p z
             nr =
@@ -214,22 +216,29 @@ module _ (b d : List ℕ) where
       go is right (of-steps k below (r, reply, e)) = let z : _≡_ {A = ℕ} 99 115 = cc in absurd (omega arith)
       go is right (of-nothing e) = let z : _≡_ {A = ℕ} 0 1 = cc in absurd (omega arith)
 
-  steps-line-read : (p z r : List ℕ) → LineIn b d (stepsWord ∷ p ∷ z ∷ r ∷ []) → MeanHolds (rulesOf b) (numberIn p) (numberIn z) (numberIn r)
-  steps-line-read p z r i =
+  steps-line-read : (P : ℕ → ℕ → ℕ → Type 0)
+      → ((h : Shape) → TrueFor b d (statesOf b) (symbolsOf b) h → hasMeans h ≡ true → AtRows (statesOf b) (symbolsOf b) (λ p z. P p z (meansOf (statesOf b) (symbolsOf b) h d p z)))
+      → (p z r : List ℕ) → LineIn b d (stepsWord ∷ p ∷ z ∷ r ∷ []) → P (numberIn p) (numberIn z) (numberIn r)
+  steps-line-read P holds p z r i =
       let (is, line) =
       accepted-line stepsWord (p ∷ z ∷ r ∷ []) (λ e. let z : _≡_ {A = ℕ} 115 114 = cc in omega arith)
       (λ e. let z : _≡_ {A = ℕ} 0 1 = cc in omega arith) i in
       go is (delivery-accepted b d .0 is) (found (asked b d) (gapOf b d) (statesOf b) (symbolsOf b) _ (recordsOf b) line)
     where
       go : verdict b d ≡ Accepted → RightFiles b d → Found (asked b d) (gapOf b d) (statesOf b) (symbolsOf b) (stepsWord ∷ p ∷ z ∷ r ∷ [])
-          → MeanHolds (rulesOf b) (numberIn p) (numberIn z) (numberIn r)
+          → P (numberIn p) (numberIn z) (numberIn r)
       go is right (of-table ws e) = let z : _≡_ {A = ℕ} 115 116 = cc in absurd (omega arith)
       go is right (of-margin e) = let z : _≡_ {A = ℕ} 115 109 = cc in absurd (omega arith)
       go is right (of-chance k below e) = let z : _≡_ {A = ℕ} 115 99 = cc in absurd (omega arith)
       go is right (of-steps k below (v, reply, e)) =
           let (hp, hz, same) = row-of (statesOf b) (symbolsOf b) k (fits is right .some-symbols) below in
-          steps-of is right (k / symbolsOf b) (k % symbolsOf b) v p z r hp hz (cc) (cc) (cc) reply
+          steps-of is right P (holds (right .shaped) (true-of-shape b d (right .shaped) is (right .delivery .shape))) (k / symbolsOf b) (k % symbolsOf b) v p z r hp hz
+          (cc) (cc) (cc) reply
       go is right (of-nothing e) = let z : _≡_ {A = ℕ} 0 1 = cc in absurd (omega arith)
 
 pub reader : (b d : List ℕ) → Reader b d
-reader b d = record { chances = chance-line-read b d; steps = steps-line-read b d }
+reader b d = record {
+  chances = chance-line-read b d;
+  steps = steps-line-read b d (MeanHolds (rulesOf b)) (λ h holds. holds .means);
+  tails = steps-line-read b d (TailHolds (rulesOf b) (statesOf b)) (λ h holds. holds .tails);
+}

@@ -4,7 +4,8 @@ use Prim.Native.Nat.{ℕ}
 use mathlib.Core.List.{List, [], _∷_}
 use mathlib.Core.Path.{_≡_}
 use Rattle.walks.specs.Sums.{In}
-use Rattle.ppda.specs.Bounds.{UpperHolds, LowerHolds, MeanHolds}
+use Rattle.ppda.specs.Bounds.{UpperHolds, LowerHolds, MeanHolds, TailHolds}
+use Rattle.model.specs.Records.{statesOf}
 use Rattle.model.specs.Rules.{rulesOf}
 use Rattle.text.specs.Reading.{wordsIn, numberIn}
 use Rattle.lines.specs.Lines.{marginWord, chanceWord, stepsWord}
@@ -20,7 +21,8 @@ pub record ChanceRead (b d p z q l u : List ℕ) : Type 0 where
   pub lower : (l ≡ 45 ∷ [] → ⊥) → (m : List ℕ) → LineIn b d (marginWord ∷ m ∷ [])
       → LowerHolds (rulesOf b) (numberIn p) (numberIn z) (numberIn q) (numberIn l) (numberIn u) (numberIn m)
 
--- A line `steps p z r`: the mean steps hold.
+-- A line `steps p z r`: the mean steps hold, and so does their tail (request A.7).
 pub record Reader (b d : List ℕ) : Type 0 where
   pub chances : (p z q l u gap : List ℕ) → LineIn b d (chanceWord ∷ p ∷ z ∷ q ∷ l ∷ u ∷ gap ∷ []) → ChanceRead b d p z q l u
   pub steps : (p z r : List ℕ) → LineIn b d (stepsWord ∷ p ∷ z ∷ r ∷ []) → MeanHolds (rulesOf b) (numberIn p) (numberIn z) (numberIn r)
+  pub tails : (p z r : List ℕ) → LineIn b d (stepsWord ∷ p ∷ z ∷ r ∷ []) → TailHolds (rulesOf b) (statesOf b) (numberIn p) (numberIn z) (numberIn r)
