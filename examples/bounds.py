@@ -1,9 +1,14 @@
 #!/usr/bin/env python3
-"""Turns a readable text into model.tab or counter.tab, and bounds.cer, and back, and says what a refusal means."""
+"""Turns a readable text into model.tab or counter.tab, and bounds.cer, and back, says what a refusal means, and how long a window to book."""
 
+import math
+import re
+import subprocess
 import sys
+from fractions import Fraction
 from pathlib import Path
 
+DESK = Path(__file__).resolve().parent.parent / "desk"
 COUNTER, MODEL, DELIVERY = "counter.tab", "model.tab", "bounds.cer"
 RECORD_SIZE = {COUNTER: 8, MODEL: 10, DELIVERY: 8}
 KINDS = {"upper": 85, "lower": 76, "steps": 82}
@@ -15,6 +20,8 @@ bounds.py write TEXT [FOLDER]                 write the files (default: beside t
 bounds.py read [FOLDER]                       print the files as a text (default: this folder)
 bounds.py made [FOLDER]                       print the text with the model that counter.tab makes
 bounds.py explain [NUMBER PLACE SHORTFALL]    explain one refusal, or list them all
+bounds.py window FOLDER P Z SHARE             the steps to book so that a run from row P Z is back with
+                                              a chance of SHARE, as 99/100, by its accepted mean steps
 
 A text has one record a line, written in the order given; # starts a comment. Rules go to
 model.tab, moves to counter.tab, bounds to bounds.cer. The lines are:"""
@@ -246,6 +253,45 @@ def refusal_table():
                      for number, (file, counted, wrong) in REFUSALS.items())
 
 
+def filing_in(folder):
+    """Gives the desk's call that files a folder's model, or its counter file where it has one instead."""
+    if not Path(folder).is_dir():
+        raise ValueError(f"{folder} is not a folder")
+    calls = {MODEL: f"model {MODEL}", COUNTER: f"counter {COUNTER}"}
+    found = [call for name, call in calls.items() if (Path(folder) / name).exists()]
+    if len(found) != 1:
+        raise ValueError(f"{folder} has {'both' if found else 'neither'} {MODEL} {'and' if found else 'nor'} {COUNTER}")
+    return found[0]
+
+
+def desk_replies(folder, calls):
+    """Gives the desk's reply to each call, with files named from the folder on; a refusal is told in words."""
+    lines = "".join(call + "\n" for call in calls)
+    done = subprocess.run([DESK], cwd=folder, input=lines, stdout=subprocess.PIPE, encoding="ascii")
+    replies = [line.split() for line in done.stdout.splitlines()]
+    if done.returncode or len(replies) != len(calls):
+        raise ValueError(f"the desk ended with status {done.returncode}")
+    for reply in replies:
+        if reply[0] == "refused":
+            raise ValueError(f"{' '.join(reply)}: {explain(*map(int, reply[1:]))}")
+    return replies
+
+
+def window(steps, share):
+    """Gives the least n for which 1 - r/n is at least the share, for mean steps r of steps/256."""
+    return math.ceil(Fraction(steps, 256) / (1 - share))
+
+
+def share_from(word):
+    """Reads a share of all runs, written as 99/100."""
+    if not re.fullmatch(r"[0-9]{1,9}/[0-9]{1,9}", word) or int(word.split("/")[1]) == 0:
+        raise ValueError(f"'{word}' is no share, as 99/100 is")
+    share = Fraction(word)
+    if not 0 < share < 1:
+        raise ValueError(f"the share {word} is not between 0 and 1: no number of steps is promised for all runs")
+    return share
+
+
 def write_command(text, folder=None):
     """Writes the files; a text that cannot be read writes none."""
     folder = Path(folder) if folder else Path(text).parent
@@ -286,10 +332,22 @@ def explain_command(*words):
     print(explain(*numbers) if numbers else refusal_table())
 
 
+def window_command(folder, p, Z, word):
+    """Prints how many steps to book, by the mean steps that the desk accepts."""
+    share, row = share_from(word), f"{whole_number(p, 2)} {whole_number(Z, 2)}"
+    filing = filing_in(folder)
+    *_, (_, steps) = desk_replies(folder, [filing, f"delivery {DELIVERY}", f"steps {row}"])
+    n = window(int(steps), share)
+    unit, back = ("moves", "has reached the count 0") if COUNTER in filing else ("steps", "is back")
+    print(f"{n} {unit}: a run from row {row} {back} within them with a chance of at least {word}.")
+    print(f"This is the least that the theorem gives for the accepted mean of {steps}/256 {unit}: within n {unit} at least 1 - mean/n.")
+    print(f"It may be generous: fewer {unit} may do.")
+
+
 def main(words):
     """Runs the command that the words name and gives the exit status."""
     commands = {"write": (write_command, (1, 2)), "read": (read_command, (0, 1)), "made": (made_command, (0, 1)),
-                "explain": (explain_command, (0, 3))}
+                "explain": (explain_command, (0, 3)), "window": (window_command, (4,))}
     command, counts = commands.get(words[0] if words else "", (None, ()))
     if len(words) - 1 not in counts:
         print(USAGE, *FORMS.values(), sep="\n    ", file=sys.stderr)

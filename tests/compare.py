@@ -144,7 +144,7 @@ def judge_accepted(accepted, count):
         noticed.update(kinds)
     print("held against runs: %d deliveries of %d models; false figures noticed: %s" % (len(accepted), len(models), dict(noticed)))
     demand(len(models) >= MODELS_JUDGED, count, "at least %d models are held against runs" % MODELS_JUDGED)
-    demand(all(noticed[kind] >= FEWEST for kind in ("upper", "lower", "mean")), count, "at least %d false figures of each block are noticed" % FEWEST)
+    demand(all(noticed[kind] >= FEWEST for kind in soundness.NOTICED), count, "at least %d times a false figure of each block, and each wrong tail, is noticed" % FEWEST)
 
 
 def positive(word):

@@ -102,10 +102,11 @@ def promise_faults(counter, delivery):
     sums = {(u, 0): passages(counter, u) for u in range(table.states)}
     yield from soundness.broken_chances(table, figures, sums)
     yield from soundness.broken_means(table, figures, sums)
+    yield from soundness.broken_tails(table, figures, sums)
 
 
 def false_promises_noticed(counter, delivery):
-    """Whether an upper and mean steps just below what the walk reaches, and a lower just above what it allows, are noticed; True where there are none to try."""
+    """Whether an upper and mean steps just below what the walk reaches, the least figure by the tail less 1, and a lower just above what it allows, are noticed; True where there are none to try."""
     model = checker.made_model(counter)
     table, figures = checker.table_of(model), checker.accepted_figures(model, delivery)
     sums = {(u, 0): passages(counter, u) for u in range(table.states)}
@@ -116,6 +117,7 @@ def false_promises_noticed(counter, delivery):
         noticed.append(any(soundness.broken_chances(table, figures._replace(upper=upper, lower=None), sums)))
     if figures.mean:
         noticed.append(any(soundness.broken_means(table, figures._replace(mean=[(mean * 256 - 1) // CERTAIN ** MOVES, *figures.mean[1:]]), sums)))
+        noticed.append(not soundness.tail_is_noticed(table, figures, sums, soundness.tail_reaches_promise))
     if figures.lower:
         lower = [soundness.lower_too_high(table, figures, sums), *figures.lower[1:]]
         noticed.append(any(soundness.broken_chances(table, figures._replace(lower=lower), sums)))

@@ -567,7 +567,7 @@ def check_runs(cases):
                 fail("a merged delivery does not hold of the runs: %s\n  model  %s\n  merged %s" % (found[:3], case.model.hex(), merged.hex()))
             judged.append(merged)
             noticed.update(kinds)
-    check_kinds(noticed, ("upper", "lower", "mean"))
+    check_kinds(noticed, soundness.NOTICED)
     return len(judged)
 
 

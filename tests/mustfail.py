@@ -25,8 +25,14 @@ class Row(NamedTuple):
     twin: tuple   # a new line for each that the edit has, in their order
 
 
+LATER_BY_NOTHING = (  # the twin of a tail for n and some steps more
+    "AtLeastTail n c r = (n + 0) * stepUnit * weightUnit ^ n ≤ (n + 0) * stepUnit * c + r * weightUnit ^ n",
+    "    le-of-mul-le-mul-left {k = (n + 0) * 2 ^ 8} (go (65536 ^ n) tail) (omega arith)",
+    "    go : (e : ℕ) → (n + 0) * 2 ^ 8 * e ≤ (n + 0) * 2 ^ 8 * c + r * e → (n + 0) * 2 ^ 8 * (a * e) ≤ (n + 0) * 2 ^ 8 * ((a + d) * c)",
+)
+
 # Registers that have to break the contracts (document 01, "Conditions of acceptance", 3); the mistakes of method; short runs (request A.1);
-# counter machines (request A.2); marks (request A.3); the order of records (request A.4); live marks, and reasons; merges (request A.5); numbers by exit (request A.6); desks.
+# counter machines (request A.2); marks (request A.3); the order of records (request A.4); live marks, and reasons; merges (request A.5); numbers by exit (request A.6); tails (request A.7); desks.
 TABLE = [
     Row("takes no model", "filing/takes_no_model", ("let found = wellformed::check(file); found",)),
     Row("takes no model", "wellformed/takes_no_model", ("    (0 < n) & ((n % RECORD_BYTES == 0) & (n <= 10240))",)),
@@ -293,6 +299,27 @@ TABLE = [
         ("getD (r .numbers .uppers) ((q * r .model .states + (let x = p in x))",)),
     Row("says that answers are the same before the first call alone", "history/same_answers_at_the_start_alone",
         ("SameAnswers cs = (c : Call) → replyTo (let xs = cs in xs) c ≡ replyByFile (registerByFile cs) c", "same-answers ds c = let cs : List Call = ds in")),
+
+    # How long until nearly all are back (request A.7). One step later is true of the runs: it is refused as not the request's.
+    Row("promises the tail 1 − r/(n + 1)", "ppda/tail_one_step_later", LATER_BY_NOTHING),
+    Row("promises the tail 1 − r/(n + 2)", "ppda/tail_two_steps_later", LATER_BY_NOTHING),
+    Row("promises the tail with r taken in whole steps", "ppda/tail_in_whole_steps",
+        ("AtLeastTail n c r = n * (stepUnit * weightUnit ^ n) ≤ n * (stepUnit * c) + r * weightUnit ^ n", "→ r * (a + d) ≤ n * (2 ^ 8 * d) → a * 65536 ^ n",
+         "    le-of-mul-le-mul-left {k = n * 2 ^ 8} (go (65536 ^ n) tail) (mul-pos some (lit< tt))",
+         "    go : (e : ℕ) → n * (2 ^ 8 * e) ≤ n * (2 ^ 8 * c) + r * e → n * 2 ^ 8 * (a * e) ≤ n * 2 ^ 8 * ((a + d) * c)")),
+    Row("promises the tail of one exit alone", "ppda/tail_of_one_exit", ("returnedWithin m s n p z = let k = s in sumTo (λ q. chance m n p z q) k",)),
+    Row("promises a tail of no passage", "onecounter/tail_promised_weaker",
+        ("(let k = s in AtLeastTail n (sumTo (λ v. firstPassage m n u v) k) r)",
+         "  passage-tail s r h n = subst (λ x. AtLeastTail n (sumTo x s) r) (fun-ext (λ v. sym (passage-is-chance m n u v))) (let k = n in h k)")),
+    Row("promises a tail of everybody back", "history/tail_promised_of_everybody_back",
+        ("(b : List ℕ) × Holds cs b × ((n : ℕ) → Rattle.ppda.specs.Bounds.AtLeastTail n (Rattle.ppda.specs.Chances.returnedWithin (rulesOf b) (statesOf b) n p z) r)",
+         "    (b, files .model, λ n. figure-of files (TailHolds (rulesOf b) (statesOf b)) (λ h holds. holds .tails) p z r reply n)")),
+    Row("promises a tail of one exit of what is shown", "history/tail_promised_of_one_exit",
+        ("(b : List ℕ) × Holds cs b × (let s = statesOf b in TailHolds (rulesOf b) s p z r)",)),
+    Row("promises of tails before the first call alone", "history/tails_promised_at_the_start_alone",
+        ("  pub tails-true : TailShown (let xs = cs in xs)", "use mathlib.Core.List.{List, []}", "  tails-true = tail-shown (let xs = cs in xs);")),
+    Row("promises of tails of first passage before the first call alone", "history/passage_tails_promised_at_the_start_alone",
+        ("  pub passage-tails-true : PassageTailShown (let xs = cs in xs)", "use mathlib.Core.List.{List, []}", "  passage-tails-true = passage-tail-shown (let xs = cs in xs);")),
 
     Row("the desk replies to the call before, by definition", "script/reply_to_the_call_before",
         ("use mathlib.Core.List.{List, [], _∷_, _++_, map, headD}", "{Call, clear, fileModel, fileCounter, fileDelivery, merge, cleared}",

@@ -1,4 +1,4 @@
-"""Holds accepted figures, and the margin that is printed with them, against chances and means summed over runs, in whole numbers only."""
+"""Holds accepted figures, the margin that is printed with them, and the tail of request A.7 against chances and means summed over runs, in whole numbers only."""
 from functools import lru_cache
 from itertools import islice
 
@@ -38,6 +38,30 @@ def chance_reaches_lower(chance, n, k, lower, upper, margin):
 def mean_within_figure(mean, n, figure):
     """mean / 65536^n <= figure / 256."""
     return mean * 256 <= figure * CERTAIN ** n
+
+
+def tail_reaches_promise(chances, n, figure):
+    """All chances / 65536^n >= 1 - figure / (256 n), with what is taken away moved to the other side."""
+    return n * 256 * sum(chances.values()) + figure * CERTAIN ** n >= n * 256 * CERTAIN ** n
+
+
+def tail_later(steps):
+    """The tail as if it were 1 - r/(n + steps)."""
+    return lambda chances, n, figure: (n + steps) * 256 * sum(chances.values()) + figure * CERTAIN ** n >= (n + steps) * 256 * CERTAIN ** n
+
+
+# Tails that are not the request's: figures at its edge tell each of them apart. The runs refute those of REFUTED. They do not refute the others: one step later is true of them,
+# since who has not returned within n steps takes n + 1 at least (theorem `tail-one-later`), and so is r rounded down, since the first step is taken by all.
+ONE_LATER, TWO_LATER, ONE_EXIT = "1 - r/(n + 1)", "1 - r/(n + 2)", "one exit alone"
+WRONG_TAILS = {
+    ONE_LATER: tail_later(1),
+    TWO_LATER: tail_later(2),
+    ONE_EXIT: lambda chances, n, figure: tail_reaches_promise({0: chances.get(0, 0)}, n, figure),
+    "r in whole steps": lambda chances, n, figure: tail_reaches_promise(chances, n, 256 * figure),
+    "r rounded down to whole steps": lambda chances, n, figure: tail_reaches_promise(chances, n, figure // 256 * 256),
+}
+REFUTED = (TWO_LATER, ONE_EXIT)
+NOTICED = ("upper", "lower", "mean", "tail", *("tail: " + name for name in WRONG_TAILS), *("refuted: " + name for name in REFUTED))
 
 
 def rounds_of_f(table, rounds):
@@ -97,11 +121,39 @@ def broken_means(table, figures, sums):
                 yield "mean", row, n
 
 
+def broken_tails(table, figures, sums, tail=tail_reaches_promise):
+    for row, figure in zip(table.rows, figures.mean or []):
+        for n, (chances, _) in enumerate(sums[row]):
+            if n and not tail(chances, n, figure):
+                yield "tail", row, n
+
+
 def broken(model, figures):
     """Each claim that the runs contradict."""
     table, sums = checker.table_of(model), counted(model)
     yield from broken_chances(table, figures, sums)
     yield from broken_means(table, figures, sums)
+    yield from broken_tails(table, figures, sums)
+
+
+def least_by_the_tail(sums):
+    """The least figure of a row by the request: r/n is at least the chance of not having returned, for each n from 1 on."""
+    away = ((n, CERTAIN ** n - sum(chances.values())) for n, (chances, _) in enumerate(sums) if n)
+    return max(-(-256 * n * chance // CERTAIN ** n) for n, chance in away)
+
+
+def tail_is_noticed(table, figures, sums, tail):
+    """Whether a tail is told from the request's: by the least figures that pass, or by these less 1 in some row."""
+    least = [least_by_the_tail(sums[row]) for row in table.rows]
+    lowered = [least[:at] + [figure - 1] + least[at + 1:] for at, figure in enumerate(least) if figure]
+    passes = [not any(broken_tails(table, figures._replace(mean=mean), sums, tail)) for mean in [least, *lowered]]
+    return passes != [True] + [False] * len(lowered)
+
+
+def wrong_tails_noticed(table, figures, sums):
+    """The tails that are not the request's and are told so, and those that the runs refute for accepted figures."""
+    noticed = ["tail: " + name for name, tail in WRONG_TAILS.items() if tail_is_noticed(table, figures, sums, tail)]
+    return noticed + ["refuted: " + name for name, tail in WRONG_TAILS.items() if any(broken_tails(table, figures, sums, tail))]
 
 
 def lower_too_high(table, figures, sums):
@@ -122,7 +174,8 @@ def false_figures_noticed(model, figures):
         noticed["upper"] = any(broken(model, figures._replace(upper=[too_low] + figures.upper[1:], lower=None, mean=None)))
     if figures.mean:
         too_low = (mean * 256 - 1) // CERTAIN ** STEPS
-        noticed["mean"] = any(broken(model, figures._replace(mean=[too_low] + figures.mean[1:])))
+        noticed["mean"] = any(broken_means(table, figures._replace(mean=[too_low] + figures.mean[1:]), sums))
+        noticed["tail"] = not tail_is_noticed(table, figures, sums, tail_reaches_promise)
     if figures.lower:
         noticed["lower"] = any(broken(model, figures._replace(lower=[lower_too_high(table, figures, sums)] + figures.lower[1:])))
     return noticed
@@ -143,4 +196,6 @@ def judge(model, delivery):
         faults.append("rounds of f leave their bounds")
     noticed = false_figures_noticed(model, figures)
     faults += ["a false %s passed" % kind for kind, seen in noticed.items() if not seen]
-    return faults, noticed.keys()
+    tails = wrong_tails_noticed(table, figures, counted(model)) if figures.mean else []
+    faults += ["the runs refute the tail " + ONE_LATER] * ("refuted: " + ONE_LATER in tails)
+    return faults, [*noticed, *tails]

@@ -211,7 +211,7 @@ ShortUnderUpper cs =
     (n p z q c u : ℕ) → replyTo cs (within n p z q) ≡ value c → replyTo cs (upper p z q) ≡ value u → AtMostUpper n c u
 
 -- ---- point 3, where the held model is the one that a counter file makes (request A.2): uppers, lowers and short chances shown of the entry
--- (u, 0, v), and mean steps of the row (u, 0), are true of first passage to zero, in v, from u at the count 1, by the runs of the machine that the file says
+-- (u, 0, v), and mean steps of the row (u, 0) with their tail (request A.7), are true of first passage to zero, in v, from u at the count 1, by the runs of the machine that the file says
 
 abbrev pub PassageUpperShown : List Call → Type 0
 PassageUpperShown cs = (c : List ℕ) (u v a : ℕ) → HoldsCounter cs c → replyTo cs (upper u 0 v) ≡ value a → PassageUpper (movesOf c) u v a

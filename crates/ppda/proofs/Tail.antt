@@ -1,12 +1,12 @@
 -- Request A.7, how long until nearly all are back: what has not returned within n steps takes n + 1 at least, so that where every mean is at most the figure r, runs
 -- of a chance of at most r/(n + 1) are still under way. All others have returned, since all runs together have the chance 1.
 use Prim.Native.Nat.{ℕ, zero, suc, _+_, _*_, _^_, _≤_, _<_}
-use native.Mathlib.Nat.{le-of-mul-le-mul-left, mul-le-mul-right, mul-pos, mul-one, one-mul, mul-zero, pow-succ'}
+use native.Mathlib.Nat.{le-of-mul-le-mul-left, mul-le-mul-right, mul-pos, mul-one, one-mul, pow-succ'}
 use native.Mathlib.Omega.{arith}
 use mathlib.Core.Path.{_≡_, refl, sym, ap, ap₂, _∙_, fun-ext}
 use mathlib.Core.List.{List, [], _∷_, _++_}
 use lib.Dec.{lit<}
-use Rattle.walks.specs.Sums.{sumTo}
+use Rattle.walks.specs.Sums.{sumTo, In}
 use Rattle.ppda.specs.Rules.{Rule, overRow, pushed, Below, IsModel}
 use Rattle.ppda.specs.Runs.{overRuns, overRunsWithin}
 use Rattle.ppda.specs.Chances.{returned, underWay, chanceFrom, returnedWithin, counted}
@@ -79,7 +79,7 @@ module _ (m : List Rule) (s g : ℕ) (model : IsModel s g m) where
       then : Rule → ℕ
       then r = meanFrom m (suc n) (r .target) (pushed (r .push) ++ σ)
 
-      rest : ((r : Rule) → Rattle.walks.specs.Sums.In r m → suc n * (65536 * away r) ≤ then r) → suc n * (65536 * overRow m p z away) ≤ overRow m p z then
+      rest : ((r : Rule) → In r m → suc n * (65536 * away r) ≤ then r) → suc n * (65536 * overRow m p z away) ≤ overRow m p z then
       rest each = rw (← row-mul m p z 65536 away, ← row-mul m p z (suc n) _) (row-mono m p z _ _ each)
 
       some : overRow m p z away ≤ 65536 ^ suc n

@@ -1,4 +1,4 @@
--- What a certificate (document 01's delivery) claims of a model with s states and g symbols, and what mission point 3 promises.
+-- What a certificate (document 01's delivery) claims of a model with s states and g symbols, and what mission point 3 and request A.7 promise.
 -- Uppers and lowers count 1/2^20, mean steps 1/2^8.
 use Prim.Native.Nat.{ℕ, _+_, _-_, _*_, _^_, _≤_, _<_}
 use mathlib.Core.Bool.{true, false}
@@ -39,7 +39,7 @@ pub record Certificate (m : List Rule) (s g : ℕ) (u l : Vector) (r : RowVector
   pub lowers : Lowers m s g u l
   pub means : Means m s g u r
 
--- ---- what mission point 3 promises, of one entry or row. Its inequalities stand here once; files, registers, printed lines, C hosts and counter machines cite them.
+-- ---- what mission point 3 and request A.7 promise, of one entry or row. Their inequalities stand here once; files, registers, printed lines, C hosts and counter machines cite them.
 
 -- A chance c within n steps is at most the upper u: c counts 1/65,536^n, u counts 1/2^20.
 abbrev pub AtMostUpper : ℕ → ℕ → ℕ → Type 0
