@@ -265,16 +265,23 @@ def filing_in(folder):
 
 
 def desk_replies(folder, calls):
-    """Gives the desk's reply to each call, with files named from the folder on; a refusal is told in words."""
+    """Gives the desk's replies to the calls, with files named from the folder on."""
     lines = "".join(call + "\n" for call in calls)
-    done = subprocess.run([DESK], cwd=folder, input=lines, stdout=subprocess.PIPE, encoding="ascii")
-    replies = [line.split() for line in done.stdout.splitlines()]
-    if done.returncode or len(replies) != len(calls):
+    done = subprocess.run([DESK], cwd=Path(folder), input=lines, stdout=subprocess.PIPE, encoding="ascii")
+    if done.returncode:
         raise ValueError(f"the desk ended with status {done.returncode}")
+    return done.stdout.splitlines()
+
+
+def accepted_steps(folder, filing, row):
+    """Gives a row's mean steps in 256ths, once the desk has accepted the folder's files; a refusal is told in words."""
+    replies = desk_replies(folder, [filing, f"delivery {DELIVERY}", f"steps {row}"])
     for reply in replies:
-        if reply[0] == "refused":
-            raise ValueError(f"{' '.join(reply)}: {explain(*map(int, reply[1:]))}")
-    return replies
+        if re.fullmatch(r"refused \d+ \d+ -?\d+", reply):
+            raise ValueError(f"{reply}: {explain(*map(int, reply.split()[1:]))}")
+    if replies[:2] != ["accepted", "new"] or not re.fullmatch(r"value \d+", "".join(replies[2:])):
+        raise ValueError(f"the desk replied {replies}")
+    return int(replies[2].split()[1])
 
 
 def window(steps, share):
@@ -285,10 +292,10 @@ def window(steps, share):
 def share_from(word):
     """Reads a share of all runs, written as 99/100."""
     if not re.fullmatch(r"[0-9]{1,9}/[0-9]{1,9}", word) or int(word.split("/")[1]) == 0:
-        raise ValueError(f"'{word}' is no share, as 99/100 is")
+        raise ValueError(f"'{word}' is no share: two whole numbers of at most nine digits, as 99/100")
     share = Fraction(word)
     if not 0 < share < 1:
-        raise ValueError(f"the share {word} is not between 0 and 1: no number of steps is promised for all runs")
+        raise ValueError(f"the share {word} is not above 0 and below 1")
     return share
 
 
@@ -336,10 +343,11 @@ def window_command(folder, p, Z, word):
     """Prints how many steps to book, by the mean steps that the desk accepts."""
     share, row = share_from(word), f"{whole_number(p, 2)} {whole_number(Z, 2)}"
     filing = filing_in(folder)
-    *_, (_, steps) = desk_replies(folder, [filing, f"delivery {DELIVERY}", f"steps {row}"])
-    n = window(int(steps), share)
-    unit, back = ("moves", "has reached the count 0") if COUNTER in filing else ("steps", "is back")
-    print(f"{n} {unit}: a run from row {row} {back} within them with a chance of at least {word}.")
+    steps = accepted_steps(folder, filing, row)
+    run, unit = (f"a run from row {row} is back", "steps")
+    if filing.endswith(COUNTER):
+        run, unit = (f"a run from state {whole_number(p, 2)} at the count 1 has reached 0", "moves")
+    print(f"{window(steps, share)} {unit}: {run} within them with a chance of at least {word}.")
     print(f"This is the least that the theorem gives for the accepted mean of {steps}/256 {unit}: within n {unit} at least 1 - mean/n.")
     print(f"It may be generous: fewer {unit} may do.")
 

@@ -95,32 +95,39 @@ def faults(counter):
 
 # Accepted bounds hold of the walk.
 
-def promise_faults(counter, delivery):
-    """Uppers, lowers and mean steps that are accepted for the made model, against first passages."""
-    model = checker.made_model(counter)
-    table, figures = checker.table_of(model), checker.accepted_figures(model, delivery)
-    sums = {(u, 0): passages(counter, u) for u in range(table.states)}
+def broken_promises(table, figures, sums):
+    """Uppers, lowers, mean steps and their tail, against first passages."""
     yield from soundness.broken_chances(table, figures, sums)
     yield from soundness.broken_means(table, figures, sums)
     yield from soundness.broken_tails(table, figures, sums)
 
 
-def false_promises_noticed(counter, delivery):
-    """Whether an upper and mean steps just below what the walk reaches, the least figure by the tail less 1, and a lower just above what it allows, are noticed; True where there are none to try."""
+def promises(counter, delivery):
+    """The made model's table, the figures that are accepted for it, and the sums of first passages."""
     model = checker.made_model(counter)
     table, figures = checker.table_of(model), checker.accepted_figures(model, delivery)
-    sums = {(u, 0): passages(counter, u) for u in range(table.states)}
+    return table, figures, {(u, 0): passages(counter, u) for u in range(table.states)}
+
+
+def promise_faults(counter, delivery):
+    return broken_promises(*promises(counter, delivery))
+
+
+def false_promises_noticed(counter, delivery):
+    """Whether an upper and mean steps just below what the walk reaches, the least figure by the tail less 1, and a lower just above what it allows, are noticed; True where there are none to try."""
+    table, figures, sums = promises(counter, delivery)
+
+    def breaks(kind, **changed):
+        return soundness.has(kind, broken_promises(table, figures._replace(**changed), sums))
     chances, mean = sums[0, 0][MOVES]
     noticed = []
     if chances.get(0):
-        upper = [(chances[0] * checker.ONE - 1) // CERTAIN ** MOVES, *figures.upper[1:]]
-        noticed.append(any(soundness.broken_chances(table, figures._replace(upper=upper, lower=None), sums)))
+        noticed.append(breaks("upper", upper=[(chances[0] * checker.ONE - 1) // CERTAIN ** MOVES, *figures.upper[1:]], lower=None))
     if figures.mean:
-        noticed.append(any(soundness.broken_means(table, figures._replace(mean=[(mean * 256 - 1) // CERTAIN ** MOVES, *figures.mean[1:]]), sums)))
-        noticed.append(not soundness.tail_is_noticed(table, figures, sums, soundness.tail_reaches_promise))
+        noticed.append(breaks("mean", mean=[(mean * 256 - 1) // CERTAIN ** MOVES, *figures.mean[1:]]))
+        noticed.append(soundness.is_the_requests_tail(table, sums, lambda means: breaks("tail", mean=means)))
     if figures.lower:
-        lower = [soundness.lower_too_high(table, figures, sums), *figures.lower[1:]]
-        noticed.append(any(soundness.broken_chances(table, figures._replace(lower=lower), sums)))
+        noticed.append(breaks("lower", lower=[soundness.lower_too_high(table, figures, sums), *figures.lower[1:]]))
     return all(noticed)
 
 

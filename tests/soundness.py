@@ -50,11 +50,12 @@ def tail_later(steps):
     return lambda chances, n, figure: (n + steps) * 256 * sum(chances.values()) + figure * CERTAIN ** n >= (n + steps) * 256 * CERTAIN ** n
 
 
-# Tails that are not the request's: figures at its edge tell each of them apart. The runs refute those of REFUTED. They do not refute the others: one step later is true of them,
-# since who has not returned within n steps takes n + 1 at least (theorem `tail-one-later`), and so is r rounded down, since the first step is taken by all.
-ONE_LATER, TWO_LATER, ONE_EXIT = "1 - r/(n + 1)", "1 - r/(n + 2)", "one exit alone"
+# Tails that are not the request's: figures at its edge tell each of them apart. The runs refute those of REFUTED for accepted figures. The others are true of them: r in whole
+# steps claims less than the request, and one step later and r rounded down follow from 1 - (r - 1)/n, which the mean gives too (theorems `tail-after-the-first`,
+# `tail-one-later`, `tail-rounded-down`). A tail that accepted figures break is broken by their mean counted to the same n too, so that kinds are told apart below.
+TWO_LATER, ONE_EXIT = "1 - r/(n + 2)", "one exit alone"
 WRONG_TAILS = {
-    ONE_LATER: tail_later(1),
+    "1 - r/(n + 1)": tail_later(1),
     TWO_LATER: tail_later(2),
     ONE_EXIT: lambda chances, n, figure: tail_reaches_promise({0: chances.get(0, 0)}, n, figure),
     "r in whole steps": lambda chances, n, figure: tail_reaches_promise(chances, n, 256 * figure),
@@ -136,24 +137,32 @@ def broken(model, figures):
     yield from broken_tails(table, figures, sums)
 
 
+def has(kind, claims):
+    """Whether a claim of this kind is among those that the runs contradict."""
+    return any(found == kind for found, *_ in claims)
+
+
 def least_by_the_tail(sums):
     """The least figure of a row by the request: r/n is at least the chance of not having returned, for each n from 1 on."""
     away = ((n, CERTAIN ** n - sum(chances.values())) for n, (chances, _) in enumerate(sums) if n)
     return max(-(-256 * n * chance // CERTAIN ** n) for n, chance in away)
 
 
-def tail_is_noticed(table, figures, sums, tail):
-    """Whether a tail is told from the request's: by the least figures that pass, or by these less 1 in some row."""
+def is_the_requests_tail(table, sums, breaks):
+    """Whether breaks(means) is so just where the request's tail does not let these means pass: not for the least of each row, but for these less 1 in any row."""
     least = [least_by_the_tail(sums[row]) for row in table.rows]
     lowered = [least[:at] + [figure - 1] + least[at + 1:] for at, figure in enumerate(least) if figure]
-    passes = [not any(broken_tails(table, figures._replace(mean=mean), sums, tail)) for mean in [least, *lowered]]
-    return passes != [True] + [False] * len(lowered)
+    return not breaks(least) and all(map(breaks, lowered))
 
 
 def wrong_tails_noticed(table, figures, sums):
     """The tails that are not the request's and are told so, and those that the runs refute for accepted figures."""
-    noticed = ["tail: " + name for name, tail in WRONG_TAILS.items() if tail_is_noticed(table, figures, sums, tail)]
-    return noticed + ["refuted: " + name for name, tail in WRONG_TAILS.items() if any(broken_tails(table, figures, sums, tail))]
+    noticed = []
+    for name, tail in WRONG_TAILS.items():
+        def breaks(means, tail=tail):
+            return any(broken_tails(table, figures._replace(mean=means), sums, tail))
+        noticed += ["tail: " + name] * (not is_the_requests_tail(table, sums, breaks)) + ["refuted: " + name] * breaks(figures.mean)
+    return noticed
 
 
 def lower_too_high(table, figures, sums):
@@ -171,13 +180,13 @@ def false_figures_noticed(model, figures):
     chance, mean = sums[p, z][STEPS][0].get(q, 0), sums[p, z][STEPS][1]
     if chance:
         too_low = (chance * ONE - 1) // CERTAIN ** STEPS
-        noticed["upper"] = any(broken(model, figures._replace(upper=[too_low] + figures.upper[1:], lower=None, mean=None)))
+        noticed["upper"] = has("upper", broken(model, figures._replace(upper=[too_low] + figures.upper[1:], lower=None, mean=None)))
     if figures.mean:
         too_low = (mean * 256 - 1) // CERTAIN ** STEPS
-        noticed["mean"] = any(broken_means(table, figures._replace(mean=[too_low] + figures.mean[1:]), sums))
-        noticed["tail"] = not tail_is_noticed(table, figures, sums, tail_reaches_promise)
+        noticed["mean"] = has("mean", broken(model, figures._replace(mean=[too_low] + figures.mean[1:])))
+        noticed["tail"] = is_the_requests_tail(table, sums, lambda means: has("tail", broken(model, figures._replace(mean=means))))
     if figures.lower:
-        noticed["lower"] = any(broken(model, figures._replace(lower=[lower_too_high(table, figures, sums)] + figures.lower[1:])))
+        noticed["lower"] = has("lower", broken(model, figures._replace(lower=[lower_too_high(table, figures, sums)] + figures.lower[1:])))
     return noticed
 
 
@@ -197,5 +206,5 @@ def judge(model, delivery):
     noticed = false_figures_noticed(model, figures)
     faults += ["a false %s passed" % kind for kind, seen in noticed.items() if not seen]
     tails = wrong_tails_noticed(table, figures, counted(model)) if figures.mean else []
-    faults += ["the runs refute the tail " + ONE_LATER] * ("refuted: " + ONE_LATER in tails)
+    faults += [name for name in tails if name.startswith("refuted: ") and name not in NOTICED]
     return faults, [*noticed, *tails]

@@ -1,5 +1,5 @@
 -- What a C host learns from a code of 0: of a model's bytes b, that they are a model file; of a delivery's bytes d beside them, that they are a
--- delivery file for it, and mission point 3, that what they say is true of the runs of the model.
+-- delivery file for it, and mission point 3 with the tail of request A.7, that what they say is true of the runs of the model.
 use Prim.Native.Nat.{ℕ}
 use mathlib.Core.List.{List}
 use mathlib.Core.Logic.{_↔_}

@@ -11,6 +11,7 @@ use Rattle.words.specs.Words.{wordAt}
 use Rattle.walks.specs.Sums.{sign, sum, sumTo, leastTo, greatestTo}
 use Rattle.ppda.specs.Rules.{fits, overRow, rule, one, two}
 use Rattle.ppda.specs.W.{w}
+use Rattle.ppda.proofs.TailEdges.{forever}
 use Rattle.ppda.specs.Equations.{f, meanSide}
 use Rattle.ppda.specs.Live.{mark, isLive, alive, Live}
 use Rattle.ppda.specs.Margin.{share, shareAt, margin, kept, whole}
@@ -147,9 +148,14 @@ pub w-said : rulesOf wFile ≡ w
 unfolding rulesOf listTo ruleOf recordsOf field weight wordAt
 w-said = refl
 
-pub w-states : statesOf wFile ≡ 2
+-- The ten bytes of Z to Z say its rule, of one state.
+pub z-to-z-said : rulesOf zToZ ≡ forever
+unfolding rulesOf listTo ruleOf recordsOf field weight wordAt
+z-to-z-said = refl
+
+pub z-to-z-states : statesOf zToZ ≡ 1
 unfolding statesOf greatestTo recordsOf field
-w-states = refl
+z-to-z-states = refl
 
 -- And they are the bytes made of them.
 pub w-made : madeModel w ≡ wFile

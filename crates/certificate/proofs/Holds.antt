@@ -1,6 +1,6 @@
 -- Mission point 3 for files: what an accepted delivery says is true of the runs of its model. An accepted file makes the claims that the
 -- theorems of crate ppda take.
-use Prim.Native.Nat.{ℕ}
+use Prim.Native.Nat.{ℕ, _<_}
 use native.Mathlib.Omega.{arith}
 use mathlib.Core.Bool.{Bool, true, false, cond}
 use mathlib.Core.List.{List}
@@ -84,6 +84,11 @@ true-of-shape b d h accepted shape =
     let holds = accepted-true b d accepted in
     let same : holds .shape ≡ h = let of = holds .shaped in cc in
     rw same at (holds .bounds)
+
+-- The tail of request A.7, written out: of every row of the model, by the figure of the file.
+pub tail-of-files : (b d : List ℕ) (h : Shape) → verdict b d ≡ Accepted → shapeOf (statesOf b) (symbolsOf b) d ≡ Of h → hasMeans h ≡ true
+    → (p z : ℕ) → p < statesOf b → z < symbolsOf b → Bounds.TailHolds (rulesOf b) (statesOf b) p z (meansOf (statesOf b) (symbolsOf b) h d p z)
+tail-of-files b d h accepted shape = true-of-shape b d h accepted shape .tails
 
 -- ---- the margin that is shown
 

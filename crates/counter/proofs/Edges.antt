@@ -1,5 +1,6 @@
 -- The tables of counter files hold, by computation.
-use mathlib.Core.List.{map}
+use Prim.Native.Nat.{ℕ}
+use mathlib.Core.List.{List, map}
 use mathlib.Core.Path.{_≡_, refl}
 use Rattle.words.specs.Words.{wordAt}
 use Rattle.outcome.specs.Tests.{first}
@@ -8,10 +9,11 @@ use Rattle.walks.specs.Lists.{listTo, each}
 use Rattle.model.specs.Made.{madeModel}
 use Rattle.onecounter.specs.Pushing.{rulesFor}
 use Rattle.onecounter.specs.Edges.{queue}
+use Rattle.onecounter.proofs.Edges.{forever}
 use Rattle.counter.specs.Records.{movesIn, byteIn, weightIn, statesIn}
 use Rattle.counter.specs.Moves.{moveOf, movesOf}
 use Rattle.counter.specs.Verdict.{wholeMoves, moveInRange, moveAscends, moveTests, stateSum, stateTests, counterTests, counterVerdict}
-use Rattle.counter.specs.Made.{madeCounter, counterModel}
+use Rattle.counter.specs.Made.{counterRecord, madeCounter, counterModel}
 use Rattle.counter.specs.Edges.{outcomeOf, outcomeDue, lengthCases, longestCases, recordCases, orderCases, sumCases, queueFile, queueWith, queueModel}
 
 pub cases-answered : (map outcomeOf lengthCases ≡ map outcomeDue lengthCases) × (map outcomeOf recordCases ≡ map outcomeDue recordCases)
@@ -28,6 +30,18 @@ queue-said = refl
 pub queue-states : statesIn queueFile ≡ 2
 unfolding statesIn greatestTo movesIn byteIn
 queue-states = refl
+
+-- A file of one level move, by which the count never changes.
+abbrev pub levelFile : List ℕ
+levelFile = counterRecord 0 0 1 0 65536
+
+pub level-said : movesOf levelFile ≡ forever
+unfolding movesOf listTo moveOf movesIn byteIn weightIn wordAt
+level-said = refl
+
+pub level-states : statesIn levelFile ≡ 1
+unfolding statesIn greatestTo movesIn byteIn
+level-states = refl
 
 pub queue-made : counterModel queueFile ≡ queueModel
 unfolding counterModel madeModel rulesFor movesOf listTo moveOf movesIn byteIn weightIn wordAt

@@ -14,10 +14,10 @@ use Rattle.onecounter.specs.Moves.{afterMoves, weighMoves}
 use Rattle.onecounter.specs.Passage.{overMoves, overMovesWithin, firstPassage}
 use Rattle.onecounter.specs.Promised.{PassageUpper, PassageLower, PassageMean, PassageTail}
 use Rattle.onecounter.specs.Edges.{queue}
-use Rattle.onecounter.proofs.Edges.{upper-bites, lower-bites, lower-bites-without-margin, mean-bites, tail-bites}
+use Rattle.onecounter.proofs.Edges.{upper-bites, lower-bites, lower-bites-without-margin, mean-bites, no-figure}
 use Rattle.counter.specs.Edges.{queueFile}
 use Rattle.counter.proofs.Passage.{passage-of-file, passage-upper-of-file, passage-lower-of-file, passage-mean-of-file, passage-tail-of-file}
-use Rattle.counter.proofs.Edges.{queue-said, queue-states}
+use Rattle.counter.proofs.Edges.{queue-said, levelFile, level-said, level-states}
 use Rattle.calls.specs.Calls.{Call, upper, lower, meanSteps, margin, within, Reply, value}
 use Rattle.history.specs.Run.{replyTo}
 use Rattle.history.specs.Mission.{HoldsCounter, PassageUpperShown, PassageLowerShown, PassageMeanShown, PassageTailShown, PassageShortShown}
@@ -79,10 +79,6 @@ module _ (cs : List Call) (at : HoldsCounter cs queueFile) where
   pub passage-mean-bites : (r : ℕ) → PassageMeanShown cs → replyTo cs (meanSteps 0 0) ≡ value r → 480 ≤ r
   passage-mean-bites r shown asked = mean-bites r (subst (λ m. PassageMean m 0 r) queue-said (shown queueFile 0 r at asked))
 
-  -- 3/8 of its runs have not reached zero within 2 moves, and any figure that is shown is at least 2 × 3/8 of a move.
-  pub passage-tail-bites : (r : ℕ) → PassageTailShown cs → replyTo cs (meanSteps 0 0) ≡ value r → 192 ≤ r
-  passage-tail-bites r shown asked = tail-bites r (rw (queue-said, queue-states) at (shown queueFile 0 r at asked))
-
   -- A lower, with the upper and the margin that are shown: a margin of 1/2, and one shown as 0.
   pub lower-said : (l a b : ℕ) → PassageLowerShown cs → replyTo cs (lower 0 0 0) ≡ value l → replyTo cs (upper 0 0 0) ≡ value a
       → replyTo cs margin ≡ value b → PassageLower queue 0 0 l a b
@@ -97,3 +93,7 @@ module _ (cs : List Call) (at : HoldsCounter cs queueFile) where
   pub passage-lower-bites-without-margin : (l a : ℕ) → PassageLowerShown cs → replyTo cs (lower 0 0 0) ≡ value l → replyTo cs (upper 0 0 0) ≡ value a
       → replyTo cs margin ≡ value 0 → l * 2 ^ 57 ≤ 2 ^ 76 + (2 ^ 57 - 1) * a
   passage-lower-bites-without-margin l a shown asked bound least = lower-bites-without-margin l a (lower-said l a 0 shown asked bound least)
+
+-- Where the count never changes, no mean steps are shown: some n would refute them.
+pub passage-tail-bites : (cs : List Call) (r : ℕ) → PassageTailShown cs → HoldsCounter cs levelFile → replyTo cs (meanSteps 0 0) ≡ value r → ⊥
+passage-tail-bites cs r shown at asked = no-figure r (rw (level-said, level-states) at (shown levelFile 0 r at asked))

@@ -19,7 +19,7 @@ use Rattle.ppda.specs.Chances.{chanceFrom, chance, returnedWithin}
 use Rattle.ppda.specs.Bounds.{UpperHolds, MeanHolds, TailHolds}
 use Rattle.ppda.proofs.Marks.{alive-is-bit}
 use Rattle.ppda.proofs.Tail.{window-enough}
-use Rattle.ppda.proofs.WHolds.{tail-bites}
+use Rattle.ppda.proofs.TailEdges.{no-figure}
 use Rattle.model.specs.Records.{statesOf, symbolsOf}
 use Rattle.model.specs.Rules.{rulesOf}
 use Rattle.model.specs.W.{wFile}
@@ -34,7 +34,8 @@ use Rattle.verdict.proofs.Marks.{live-marks-by-runs}
 use Rattle.verdict.specs.Verdict.{verdict}
 use Rattle.certificate.specs.Margin.{marginOf}
 use Rattle.certificate.specs.Promised.{TrueFor}
-use Rattle.certificate.proofs.Edges.{w-said, w-states}
+use Rattle.certificate.specs.Edges.{zToZ}
+use Rattle.certificate.proofs.Edges.{w-said, z-to-z-said, z-to-z-states}
 use Rattle.certificate.proofs.Holds.{accepted-true, true-of-shape}
 use Rattle.calls.specs.Calls.{Call, upper, lower, meanSteps, margin, live, within, Reply, value, refusal}
 use Rattle.history.specs.Plain.{lastModel, lastDelivery, ofModel, ofDelivery, ofBlock, atEntry, atRow, toThree, plainReply}
@@ -225,9 +226,9 @@ window-booked cs p z r n a d shown asked at-least-one enough =
     let (b, held, holds) = shown p z r asked in
     (b, held, window-enough n (returnedWithin (rulesOf b) (statesOf b) n p z) r a d at-least-one (holds n) enough)
 
--- Where W is held, a figure that is shown of row (0, 0) is half a step or more: 1/4 of its runs are not back within 2 steps.
-pub tail-shown-bites : (cs : List Call) (r : ℕ) → TailShown cs → Holds cs wFile → replyTo cs (meanSteps 0 0) ≡ value r → 128 ≤ r
+-- Where nobody returns, as where document 01's Z to Z is held, no mean steps are shown: some n would refute them.
+pub tail-shown-bites : (cs : List Call) (r : ℕ) → TailShown cs → Holds cs zToZ → replyTo cs (meanSteps 0 0) ≡ value r → ⊥
 tail-shown-bites cs r shown held asked =
     let (b, again, holds) = shown 0 0 r asked in
-    let one : b ≡ wFile = cc in
-    tail-bites r (rw (one, w-said, w-states) at holds)
+    let one : b ≡ zToZ = cc in
+    no-figure r (rw (one, z-to-z-said, z-to-z-states) at holds)

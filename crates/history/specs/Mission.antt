@@ -280,7 +280,7 @@ pub record Mission (cs : List Call) : Type 0 where
   pub short-chances-under-uppers : ShortUnderUpper cs
   -- How long until nearly all are back: within n steps at least 1 − r/n, for the mean steps r that are shown (request A.7).
   pub tails-true : TailShown cs
-  -- Where the held model is the one that a counter file makes, uppers, lowers, mean steps with their tail and short chances are true of first passage to zero (request A.2).
+  -- Where the held model is the one that a counter file makes, uppers, lowers, mean steps and short chances are true of first passage to zero (request A.2), and so is the tail (request A.7).
   pub passage-uppers-true : PassageUpperShown cs
   pub passage-lowers-true : PassageLowerShown cs
   pub passage-means-true : PassageMeanShown cs

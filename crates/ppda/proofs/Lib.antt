@@ -20,5 +20,5 @@ pub mod Mean
 pub mod Tail
 pub mod Bounds
 pub mod WHolds
-pub mod TwoSteps
+pub mod TailEdges
 pub mod Example

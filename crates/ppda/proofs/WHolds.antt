@@ -5,17 +5,16 @@ use native.Mathlib.Omega.{arith}
 use mathlib.Core.Path.{_≡_, refl}
 use mathlib.Core.Bool.{true}
 use mathlib.Core.List.{[], _∷_, flatMap}
-use mathlib.Core.Logic.{_↔_}
 use lib.Dec.{lit<, lit≤}
 use Rattle.walks.specs.Sums.{sum, sumTo, sign}
 use Rattle.ppda.specs.Units.{mostChance}
 use Rattle.ppda.specs.Rules.{rule, fits, overRow, IsModel}
 use Rattle.walks.specs.Lists.{lists}
 use Rattle.ppda.specs.Runs.{after, weigh, overRuns, overRunsWithin}
-use Rattle.ppda.specs.Chances.{mean, counted, chanceFrom, returnedWithin}
+use Rattle.ppda.specs.Chances.{mean, counted, chanceFrom}
 use Rattle.ppda.specs.Equations.{Vector, RowVector, rows, f, meanSide}
 use Rattle.ppda.specs.Live.{Live, mark, isLive, alive}
-use Rattle.ppda.specs.Bounds.{LowerAt, Means, Certificate, UpperHolds, LowerHolds, MeanHolds, AtLeastTail, TailHolds, stepsOf}
+use Rattle.ppda.specs.Bounds.{LowerAt, Means, Certificate, UpperHolds, LowerHolds, MeanHolds, stepsOf}
 use Rattle.ppda.specs.W.{w, wUppers, wLowers, wMeans}
 use Rattle.ppda.proofs.Rows.{rules-of-test}
 use Rattle.walks.proofs.Lists.{at-rows, at-entries}
@@ -87,13 +86,3 @@ lower-bites l u h = omega (arith, h .as-shown 1)
 pub lower-bites-later : (l u : ℕ) → LowerHolds w 0 0 0 l u 1048576 → l ≤ 589824
 unfolding stepsOf chanceFrom overRunsWithin overRuns sumTo sum lists flatMap after weigh fits
 lower-bites-later l u h = omega (arith, h .as-shown 2)
-
--- The tail is that of request A.7 to the unit, neither less nor more. Of W's runs from row (0, 0), 1/4 have not returned within 1 step, 1/4 within 2 and 3/32 within 3: 1 − r/n is at
--- most the others exactly where r is at least 1 × 1/4, 2 × 1/4 and 3 × 3/32 steps.
-pub tail-exactly : (r : ℕ) → (AtLeastTail 1 (returnedWithin w 2 1 0 0) r ↔ (64 ≤ r)) × (AtLeastTail 2 (returnedWithin w 2 2 0 0) r ↔ (128 ≤ r))
-    × (AtLeastTail 3 (returnedWithin w 2 3 0 0) r ↔ (72 ≤ r))
-unfolding chanceFrom overRunsWithin overRuns sumTo sum lists flatMap after weigh fits
-tail-exactly r = ((λ h. omega (arith, h), λ h. omega (arith, h)), (λ h. omega (arith, h), λ h. omega (arith, h)), (λ h. omega (arith, h), λ h. omega (arith, h)))
-
-pub tail-bites : (r : ℕ) → TailHolds w 2 0 0 r → 128 ≤ r
-tail-bites r h = tail-exactly r .1 .0 (h 2)

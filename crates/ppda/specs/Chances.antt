@@ -38,7 +38,7 @@ abbrev pub chance : List Rule → ℕ → ℕ → ℕ → ℕ → ℕ
 chance m n p z q = chanceFrom m n p (z ∷ []) q
 
 -- The chances of having returned within n steps from row (p, z), summed over all exits of a model with s states (request A.7). They come to the chance of the runs
--- that have returned at all (law `returned-by-exits`).
+-- that have returned, in whatever state (law `returned-by-exits`).
 abbrev pub returnedWithin : List Rule → ℕ → ℕ → ℕ → ℕ → ℕ
 returnedWithin m s n p z = sumTo (λ q. chance m n p z q) s
 

@@ -96,6 +96,10 @@ pub mean-learnt : MeanHolds (rulesOf wFile) 0 0 512
 unfolding numberIn numberAfter
 mean-learnt = reader wFile (wDelivery 524288 512) .steps _ _ _ steps-stand
 
-pub tail-learnt : TailHolds (rulesOf wFile) (statesOf wFile) 0 0 512
+last-steps-stand : LineIn wFile (wDelivery 524288 512) (stepsWord ∷ (49 ∷ []) ∷ (48 ∷ []) ∷ (50 ∷ 53 ∷ 54 ∷ []) ∷ [])
+unfolding wordsIn pieces
+last-steps-stand = rw w-printed (inr (inr (inr (inr (inr (inr (inl refl)))))))
+
+pub tail-learnt : TailHolds (rulesOf wFile) (statesOf wFile) 0 0 512 × TailHolds (rulesOf wFile) (statesOf wFile) 1 0 256
 unfolding numberIn numberAfter
-tail-learnt = reader wFile (wDelivery 524288 512) .tails _ _ _ steps-stand
+tail-learnt = (reader wFile (wDelivery 524288 512) .tails _ _ _ steps-stand, reader wFile (wDelivery 524288 512) .tails _ _ _ last-steps-stand)

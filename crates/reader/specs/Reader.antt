@@ -1,4 +1,4 @@
--- What a reader of a printout of the files b and d learns: mission point 3 for the numbers on a line. A line is read as words and a word as a
+-- What a reader of a printout of the files b and d learns: mission point 3, and the tail of request A.7, for the numbers on a line. A line is read as words and a word as a
 -- number, by the definitions of crate text (`Reading`), which know nothing of how lines are made.
 use Prim.Native.Nat.{ℕ}
 use mathlib.Core.List.{List, [], _∷_}
