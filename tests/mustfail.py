@@ -326,7 +326,7 @@ TABLE = [
          "  passage-tail s r h n = subst (λ x. AtLeastTail n (sumTo x s) r) (fun-ext (λ v. sym (passage-is-chance m n u v))) (let k = n in h k)")),
     Row("promises a tail of everybody back", "history/tail_promised_of_everybody_back",
         ("(b : List ℕ) × Holds cs b × ((n : ℕ) → Rattle.ppda.specs.Bounds.AtLeastTail n (Rattle.ppda.specs.Chances.returnedWithin (rulesOf b) (statesOf b) n p z) r)",
-         "    (b, files .model, λ n. figure-of files (TailHolds (rulesOf b) (statesOf b)) (λ h holds. holds .tails) p z r reply n)")),
+         "tail-shown = figure-shown (λ b p z r. (n : ℕ) → Rattle.ppda.specs.Bounds.AtLeastTail n (returnedWithin (rulesOf b) (statesOf b) n p z) r) (λ b d h holds has p z hp hz n. holds .tails has p z hp hz n)")),
     Row("promises a tail of one exit of what is shown", "history/tail_promised_of_one_exit",
         ("(b : List ℕ) × Holds cs b × (let s = statesOf b in TailHolds (rulesOf b) s p z r)",)),
     Row("promises of tails before the first call alone", "history/tails_promised_at_the_start_alone",

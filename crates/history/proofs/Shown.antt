@@ -133,7 +133,6 @@ module _ {cs : List Call} {b d : List ℕ} (files : Files cs b d) where
         holds = rw same at (true-of-shape b d h (files .accepted) shape .lowers has p z q hp hz hq);
       }
 
-  -- What holds of the row and its figure in the delivery holds of the figure that is answered.
   figure-of : (P : ℕ → ℕ → ℕ → Type 0)
       → ((h : Shape) → TrueFor b d (statesOf b) (symbolsOf b) h → hasMeans h ≡ true → AtRows (statesOf b) (symbolsOf b) (λ p z. P p z (meansOf (statesOf b) (symbolsOf b) h d p z)))
       → (p z r : ℕ) → atRow b p z (meanReply b d p z) ≡ value r → P p z r
@@ -158,17 +157,21 @@ lower-shown cs p z q l e =
     let (b, d, files, reply) = files-asked cs (λ b d. atEntry b p z q (lowerReply b d p z q)) (sym (as-plain-pair cs (lower p z q)) ∙ e) in
     lower-of files p z q l reply
 
-pub mean-shown : (cs : List Call) → MeanShown cs
+-- What holds of each row and its figure in the held delivery holds of the figure that is answered.
+figure-shown : (P : List ℕ → ℕ → ℕ → ℕ → Type 0)
+    → ((b d : List ℕ) (h : Shape) → TrueFor b d (statesOf b) (symbolsOf b) h → hasMeans h ≡ true
+    → AtRows (statesOf b) (symbolsOf b) (λ p z. P b p z (meansOf (statesOf b) (symbolsOf b) h d p z)))
+    → (cs : List Call) (p z r : ℕ) → replyTo cs (meanSteps p z) ≡ value r → (b : List ℕ) × Holds cs b × P b p z r
 unfolding plainReply
-mean-shown cs p z r e =
+figure-shown P holds cs p z r e =
     let (b, d, files, reply) = files-asked cs (λ b d. atRow b p z (meanReply b d p z)) (sym (as-plain-pair cs (meanSteps p z)) ∙ e) in
-    (b, files .model, figure-of files (MeanHolds (rulesOf b)) (λ h holds. holds .means) p z r reply)
+    (b, files .model, figure-of files (P b) (holds b d) p z r reply)
+
+pub mean-shown : (cs : List Call) → MeanShown cs
+mean-shown = figure-shown (λ b. MeanHolds (rulesOf b)) (λ b d h holds. holds .means)
 
 pub tail-shown : (cs : List Call) → TailShown cs
-unfolding plainReply
-tail-shown cs p z r e =
-    let (b, d, files, reply) = files-asked cs (λ b d. atRow b p z (meanReply b d p z)) (sym (as-plain-pair cs (meanSteps p z)) ∙ e) in
-    (b, files .model, figure-of files (TailHolds (rulesOf b) (statesOf b)) (λ h holds. holds .tails) p z r reply)
+tail-shown = figure-shown (λ b. TailHolds (rulesOf b) (statesOf b)) (λ b d h holds. holds .tails)
 
 live-bit : (b : List ℕ) (p z q : ℕ) → modelVerdict b ≡ Accepted → liveMark b p z q ≤ 1
 unfolding liveMark
