@@ -1,4 +1,4 @@
--- Request A.7, how long until nearly all are back: every run takes a first step, and what has not returned within n steps takes n more, so that where every mean is at most the
+-- Request A.7, how long until nearly all are back: every run takes a first step, and what has not returned within n steps takes n more at least, so that where every mean is at most the
 -- figure r, runs of a chance of at most (r − 1)/n are still under way. All others have returned, since all runs together have the chance 1.
 use Prim.Native.Nat.{ℕ, zero, suc, _+_, _*_, _^_, _≤_, _<_}
 use native.Mathlib.Nat.{le-refl, add-le-add, le-of-mul-le-mul-left, mul-le-mul-right, mul-pos, mul-one, one-mul, pow-succ'}

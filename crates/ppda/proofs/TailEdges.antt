@@ -1,5 +1,5 @@
--- What the tail of request A.7 comes to at its edges: for W it is the request's to the unit; a row from which nobody returns has no figure, whatever n the others ask for; and a
--- tail two steps later, or of one exit alone, would be wrong.
+-- What the tail of request A.7 comes to at its edges: for W it is the request's to the unit; a row from which nobody returns has no figure, since for each some n refutes it;
+-- and a tail two steps later, or of one exit alone, would be wrong.
 use Prim.Native.Nat.{ℕ, zero, suc, _+_, _*_, _^_, _≤_}
 use native.Mathlib.Omega.{arith}
 use mathlib.Core.Path.{_≡_, refl}
