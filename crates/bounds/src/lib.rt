@@ -1,4 +1,5 @@
 // The calls for C hosts, on byte slices. include/bounds.h declares them.
+#![tactic(auto)]
 
 ghost use Rattle.std.specs.Prelude.{◌≡◌, ◌<◌};
 ghost use Rattle.wellformed.specs.Verdict.{model_verdict};

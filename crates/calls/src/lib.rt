@@ -1,4 +1,5 @@
 // What the calls on a register answer, and in which order the reasons of a question come.
+#![tactic(auto)]
 
 ghost use Rattle.std.specs.Prelude.{◌≡◌, pos};
 ghost use Rattle.calls.specs.Answers.{answered_or, answered};

@@ -1,4 +1,5 @@
 // Runs the stored cases: for each number, the report on the files NNN.tab and NNN.cer of the working folder.
+#![tactic(auto)]
 
 // How many cases are stored.
 const CASES: u32 = 77;

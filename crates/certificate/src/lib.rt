@@ -1,4 +1,5 @@
 // A delivery with its model, in the field's term a certificate: the verdict 10 to 15 and 20 to 27, and the margin.
+#![tactic(auto)]
 
 use answer::Margin;
 use delivery::shape::{Shaped, has_lowers, shape_of};

@@ -1,4 +1,5 @@
 // Counter files (request A.2): whether bytes are one, the model that it makes, and its filing.
+#![tactic(auto)]
 
 pub mod filings; // filings.rt: the filings, on a register by value and on a lent one
 pub mod format; // format.rt: the format's numbers and the limits

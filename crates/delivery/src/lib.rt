@@ -1,4 +1,5 @@
 // A delivery file: its format, its records and its shapes.
+#![tactic(auto)]
 
 pub mod format; // format.rt: the format's numbers, units and ranges
 pub mod record; // record.rt: one record's numbers

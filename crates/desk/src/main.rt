@@ -1,5 +1,6 @@
 // The desk: calls come in as lines on standard input, replies go out as lines on standard output. The replies to all lines that one read brought
 // are written together, before the next read. The self-test comes before anything else; should it fail, nothing is read or replied.
+#![tactic(auto)]
 
 ghost use Rattle.std.specs.Prelude.{◌≡◌, ◌*◌, ◌≤◌, length};
 ghost use Rattle.replies.specs.Clauses.{reply_room};

@@ -1,4 +1,5 @@
 // Files by name, for the programs. What cannot be read counts as empty, and is told on standard error unless it is missing.
+#![tactic(auto)]
 
 mod kind;
 

@@ -1,5 +1,6 @@
 // What a filing is answered: the register's own reason, which comes before any file is read, or the verdict on the file; and the mark of an
 // accepted delivery.
+#![tactic(auto)]
 
 ghost use Rattle.std.specs.Prelude.{◌≡◌};
 ghost use Rattle.model.specs.Clauses.{Fits};

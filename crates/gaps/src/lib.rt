@@ -1,4 +1,5 @@
 // u − f(u) at the entries of an accepted delivery.
+#![tactic(auto)]
 
 ghost use Rattle.std.specs.Prelude.{◌≡◌};
 ghost use Rattle.outcome.specs.declared.Outcome.TheVariants.{Accepted};

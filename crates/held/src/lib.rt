@@ -1,4 +1,5 @@
 // What the register holds.
+#![tactic(auto)]
 
 use delivery::shape;
 use delivery::shape::Shape;

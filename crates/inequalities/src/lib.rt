@@ -1,5 +1,6 @@
 // The tests 23 to 27 of a delivery's numbers. These functions serve the check of a delivery: each asks what an accepted model and a right layout
 // give.
+#![tactic(auto)]
 
 pub mod marks; // marks.rt: the tests 23 and 25, number by number
 pub mod means; // means.rt: the test 27

@@ -1,4 +1,5 @@
 // The layout of a delivery: the tests 21 and 22, record by record through the blocks.
+#![tactic(auto)]
 
 ghost use Rattle.std.specs.Prelude.{◌≡◌, ◌*◌};
 ghost use Rattle.outcome.specs.Tests.{first};

@@ -1,3 +1,4 @@
 // The lent register.
+#![tactic(auto)]
 
 pub mod filing; // filing.rt: the filings on a lent register

@@ -1,4 +1,5 @@
 // The lines of a report, each put at `at`, and what they show of a register's answers.
+#![tactic(auto)]
 
 ghost use Rattle.std.specs.Prelude.{◌≡◌, ◌∷◌, ◌+◌, ◌≤◌, length};
 ghost use Rattle.text.specs.Clauses.{Put};

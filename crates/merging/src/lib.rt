@@ -1,4 +1,5 @@
 // The numbers of the held delivery merged with those of a second one: of each pair the sharper, with their own margin.
+#![tactic(auto)]
 
 ghost use Rattle.std.specs.Prelude.{cond, ◌&&◌, ◌||◌, ◌≡◌, ◌+◌, ◌*◌, ◌≤◌, ◌<◌};
 ghost use Rattle.walks.specs.Order.{rows_in, entries_in};

@@ -1,4 +1,5 @@
 // A model file: its format, its records, its sizes and the order of rows and entries; and model W.
+#![tactic(auto)]
 
 pub mod format; // format.rt: the format's numbers and the limits
 pub mod record; // record.rt: one record's numbers

@@ -1,4 +1,5 @@
 // The one answer of every check: accepted, or refused with a reason, a place and a shortfall.
+#![tactic(auto)]
 
 ghost use Rattle.std.specs.Prelude.{◌≡◌, pos};
 ghost use Rattle.outcome.specs.Reasons.{number_of};

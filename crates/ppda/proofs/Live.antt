@@ -41,6 +41,7 @@ listed_of_drawn m (r ∷ l) d =
 
 pub drawn_of_listed : (m : List Rule) (j : ℕ) (l : List Rule) → In l (lists m j) → Drawn m l
 unfolding lists
+drawn_of_listed m zero l (mathlib.Core.Logic.inr i) = elim i [ ]
 drawn_of_listed m zero l (inl e) = rw e tt
 drawn_of_listed m (suc j) l i =
     let t = of_in_flat_map (λ r. map (λ l. r ∷ l) (lists m j)) l m i in

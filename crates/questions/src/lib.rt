@@ -1,4 +1,5 @@
 // The questions, answered from what is held: a few small values, and the one list of numbers that is asked, or the model's bytes with their index. Nothing is copied.
+#![tactic(auto)]
 
 use calls::{Answer, Question, answered, answered_or};
 use held::places::{entry_value, exit_value, has_entry, has_row, row_value, sizes_held};

@@ -1,1 +1,2 @@
 // No code: what a reader of a printout learns of the runs (specs/ and proofs/).
+#![tactic(auto)]

@@ -1,4 +1,5 @@
 // The register, a value: it holds at most one model and one delivery, takes filings and answers questions. A refused call leaves it as it is.
+#![tactic(auto)]
 
 ghost use Rattle.std.specs.Prelude.{◌≡◌};
 ghost use Rattle.register.specs.Filing.{cleared, turned_down, file_model, turned_away, file_delivery};

@@ -1,4 +1,5 @@
 // The responses of a desk, and their lines, each put at `at`.
+#![tactic(auto)]
 
 ghost use Rattle.std.specs.Prelude.{◌+◌, ◌≤◌, length};
 ghost use Rattle.text.specs.Clauses.{Put};

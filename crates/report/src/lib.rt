@@ -1,4 +1,5 @@
 // What is printed of a model file and a delivery file: the two are filed in an empty register, which is then asked.
+#![tactic(auto)]
 
 use chances::put_chances;
 use gaps::gaps_of;

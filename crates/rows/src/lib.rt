@@ -1,4 +1,5 @@
 // Where each row's records start. Records ascend, so the records of a row are one range.
+#![tactic(auto)]
 
 ghost use Rattle.std.specs.Prelude.{◌≡◌, ℕ, ◌+◌, ◌≤◌, ◌<◌, length};
 ghost use Rattle.model.specs.Format.{most_rows};

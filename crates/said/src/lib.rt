@@ -1,4 +1,5 @@
 // What a line of a script says: a call, no call, or nothing that wants a reply.
+#![tactic(auto)]
 
 ghost use Rattle.std.specs.Prelude.{◌≡◌};
 ghost use Rattle.spelling.specs.Clauses.{arguments_in};

@@ -1,4 +1,5 @@
 // What a register responds to a line of a script.
+#![tactic(auto)]
 
 ghost use Rattle.std.specs.Prelude.{◌≡◌};
 ghost use Rattle.questions.specs.Clauses.{IfNeeded};

@@ -1,4 +1,5 @@
 // A desk: a register that takes its calls from lines of text. Input comes in pieces of any size, and lines go across pieces.
+#![tactic(auto)]
 
 ghost use Rattle.std.specs.Prelude.{◌≡◌, min, true};
 ghost use Rattle.io.specs.Counts.{IsPrefixLen};

@@ -1,4 +1,5 @@
 // Chances of very short runs of an accepted model, exact (request A.1).
+#![tactic(auto)]
 
 pub mod chances; // chances.rt: one symbol from a stacked pair, the pair from single symbols
 

@@ -1,4 +1,5 @@
 // Where words end and what they spell.
+#![tactic(auto)]
 
 pub mod arguments; // arguments.rt: the words after the first
 

@@ -1,4 +1,5 @@
 // Text in a buffer of any length: each function puts its text at `at`, leaves what stands before it, and answers where it ends.
+#![tactic(auto)]
 
 ghost use Rattle.std.specs.Prelude.{[], ◌∷◌, ◌++◌, ◌+◌, ◌≤◌, ◌<◌, length};
 ghost use Rattle.text.specs.Decimal.{decimal, signed};

@@ -53,10 +53,12 @@ module _ {A : Type 0} where
   every test (x ∷ l) = test x && every test l
 
   pub in_every : (test : A → Bool) (l : List A) → every test l ≡ true → (x : A) → In x l → test x ≡ true
+  in_every test [] e x i = elim i [ ]
   in_every test (y ∷ l) e x (inl i) = rw i ((and-eq-true_iff (test y) (every test l)).0 e).0
   in_every test (y ∷ l) e x (inr i) = in_every test l ((and-eq-true_iff (test y) (every test l)).0 e).1 x i
 
   pub in_append_left : (x : A) (k l : List A) → In x k → In x (k ++ l)
+  in_append_left x [] l i = elim i [ ]
   in_append_left x (y ∷ k) l (inl e) = inl e
   in_append_left x (y ∷ k) l (inr i) = inr (in_append_left x k l i)
 
@@ -71,20 +73,24 @@ module _ {A : Type 0} where
 
 module _ {A B : Type 0} where
   pub in_map : (k : A → B) (x : A) (l : List A) → In x l → In (k x) (map k l)
+  in_map k x [] i = elim i [ ]
   in_map k x (y ∷ l) (inl e) = inl (ap k e)
   in_map k x (y ∷ l) (inr i) = inr (in_map k x l i)
 
   pub of_in_map : (k : A → B) (y : B) (l : List A) → In y (map k l) → (x : A) × In x l × (y ≡ k x)
+  of_in_map k y [] i = elim i [ ]
   of_in_map k y (x ∷ l) (inl e) = (x, inl refl, e)
   of_in_map k y (x ∷ l) (inr i) = let t = of_in_map k y l i in (t.0, inr t.1, t.2)
 
   pub in_flat_map : (k : A → List B) (x : A) (y : B) (l : List A) → In x l → In y (k x) → In y (flat_map k l)
   unfolding flat_map
+  in_flat_map k x y [] i j = elim i [ ]
   in_flat_map k x y (w ∷ l) (inl e) j = in_append_left y (k w) (flat_map k l) (rw e at j)
   in_flat_map k x y (w ∷ l) (inr i) j = in_append_right y (k w) (flat_map k l) (in_flat_map k x y l i j)
 
   pub of_in_flat_map : (k : A → List B) (y : B) (l : List A) → In y (flat_map k l) → (x : A) × In x l × In y (k x)
   unfolding flat_map
+  of_in_flat_map k y [] i = elim i [ ]
   of_in_flat_map k y (x ∷ l) i = go (in_append_cases y (k x) (flat_map k l) i) (of_in_flat_map k y l)
     where
       go : In y (k x) ⊎ In y (flat_map k l) → (In y (flat_map k l) → (w : A) × In w l × In y (k w)) → (w : A) × In w (x ∷ l) × In y (k w)
@@ -100,10 +106,12 @@ list_to_sum k h (suc n) = sum_append k (list_to h n) (h n ∷ []) ∙ rw (list_t
 
 pub in_list_to : {A : Type 0} (h : ℕ → A) (n : ℕ) (x : A) → In x (list_to h n) → (i : ℕ) × (i < n) × (x ≡ h i)
 unfolding list_to
+in_list_to {A = A} h zero x e = elim e [ ]
 in_list_to h (suc n) x e = go (in_append_cases x (list_to h n) (h n ∷ []) e) (in_list_to h n x)
   where
     go : In x (list_to h n) ⊎ In x (h n ∷ []) → (In x (list_to h n) → (i : ℕ) × (i < n) × (x ≡ h i)) → (i : ℕ) × (i < suc n) × (x ≡ h i)
     go (inl a) rest = let t = rest a in (t.0, omega (arith, t.1), t.2)
+    go (inr (inr i)) rest = elim i [ ]
     go (inr (inl q)) rest = (n, le_refl (suc n), q)
 
 pub length_list_to : {A : Type 0} (h : ℕ → A) (n : ℕ) → length (list_to h n) ≡ n

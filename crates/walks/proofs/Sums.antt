@@ -65,6 +65,7 @@ module _ {A : Type 0} where
 
   pub term_le_sum : (h : A → ℕ) (l : List A) (x : A) → In x l → h x ≤ sum h l
   unfolding sum
+  term_le_sum h [] x i = elim i [ ]
   term_le_sum h (y ∷ l) x (inl e) = rw e (omega arith)
   term_le_sum h (y ∷ l) x (inr i) = let t : h x ≤ sum h l = term_le_sum h l x i in omega arith
 

@@ -1,4 +1,5 @@
 // Whether bytes are a model file: the verdict 10 to 15 on any bytes.
+#![tactic(auto)]
 
 use model::format::{MOST_BYTES, RECORD_BYTES};
 use model::record::key_number;

@@ -1,4 +1,5 @@
 // Numbers in a file: a byte, and four bytes with the low byte first, read and written.
+#![tactic(auto)]
 
 ghost use Rattle.std.specs.Prelude.{◌≡◌, ◌+◌, ◌<◌, ◌^◌, length, get_or};
 ghost use Rattle.words.specs.Words.{word_at, four_bytes};
