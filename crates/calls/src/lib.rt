@@ -7,7 +7,7 @@ ghost use Rattle.calls.specs.Answers.{answered_or, answered};
 use outcome::Reason;
 
 // The mark of an accepted delivery; absent where none was accepted.
-#[derive(Drop)]
+#[derive(Clone, Copy)]
 pub enum Mark {
     Known,
     New,
@@ -15,7 +15,7 @@ pub enum Mark {
 }
 
 // A question: on an entry, on a row, or on the whole; and on an entry's chance within so many steps.
-#[derive(Drop)]
+#[derive(Clone, Copy)]
 pub enum Question {
     Upper {
         p: usize,
@@ -46,7 +46,7 @@ pub enum Question {
 }
 
 // The answer to a question: a number, or a refusal.
-#[derive(Drop)]
+#[derive(Clone, Copy)]
 pub enum Answer {
     Value(u64),
     Refused {

@@ -13,7 +13,7 @@ use super::record::{kind, kind_at};
 use model::sizes::Sizes;
 
 // The four shapes: uppers; with lowers; with mean steps; with both.
-#[derive(Drop)]
+#[derive(Clone, Copy)]
 pub enum Shape {
     U,
     UL,
@@ -22,14 +22,14 @@ pub enum Shape {
 }
 
 // The shape of a file, if its length is that of any.
-#[derive(Drop)]
+#[derive(Clone, Copy)]
 pub enum Shaped {
     Of(Shape),
     Unknown,
 }
 
 // The kinds of blocks.
-#[derive(Drop)]
+#[derive(Clone, Copy)]
 pub enum Block {
     Uppers,
     Lowers,

@@ -24,7 +24,7 @@ pub struct HeldModel {
 }
 
 // What is held of deliveries: none, or one of the four shapes.
-#[derive(Drop)]
+#[derive(Clone, Copy)]
 pub enum HeldDelivery {
     Nothing,
     Of(Shape),

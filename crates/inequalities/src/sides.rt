@@ -21,7 +21,7 @@ use outcome::{Outcome, Reason, difference};
 use rows::STARTS;
 
 // Which side of the equations a number stands on: at least f; above f at a live entry; at most f.
-#[derive(Drop)]
+#[derive(Clone, Copy)]
 pub enum Side {
     Upper,
     StrictUpper,

@@ -11,7 +11,7 @@ use outcome::Outcome;
 use register::Register;
 
 // What filing a delivery, or merging it, answers: the outcome, and the mark of an accepted delivery.
-#[derive(Drop)]
+#[derive(Clone, Copy)]
 pub struct Receipt {
     pub outcome: Outcome,
     pub mark: Mark,

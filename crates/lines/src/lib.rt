@@ -21,7 +21,7 @@ pub const CHANCE_ROOM: usize = 6 + 6 * 21 + 1;
 pub const STEPS_ROOM: usize = 5 + 3 * 21 + 1;
 
 // What a register answers on an entry, and its u − f(u).
-#[derive(Drop)]
+#[derive(Clone, Copy)]
 pub struct Chance {
     pub p: usize,
     pub z: usize,

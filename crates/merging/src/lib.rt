@@ -28,7 +28,7 @@ use words::put_word;
 const BLOCK_BYTES: usize = RECORD_BYTES * MOST_ENTRIES;
 
 // Which of two numbers is kept.
-#[derive(Drop)]
+#[derive(Clone, Copy)]
 pub enum Keep {
     Smaller,
     Larger,

@@ -11,7 +11,7 @@ use super::format::RECORD_BYTES;
 use super::record::{state, symbol, target, top, under};
 
 // The numbers of states and symbols. Rows (p, Z) and entries (p, Z, q) are numbered in the order of files; in a list by exit an entry has another place.
-#[derive(Drop)]
+#[derive(Clone, Copy)]
 pub struct Sizes {
     pub states: usize,
     pub symbols: usize,

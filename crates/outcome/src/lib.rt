@@ -7,7 +7,7 @@ ghost use Rattle.outcome.specs.Tests.{is_refused};
 ghost use Rattle.outcome.specs.Differences.{difference};
 
 // Why a file is refused, or a call on the register. The number of each is `number_of` of specs/Reasons.antt.
-#[derive(Drop)]
+#[derive(Clone, Copy)]
 pub enum Reason {
     ModelLength,
     OutOfRange,
@@ -35,7 +35,7 @@ pub enum Reason {
 }
 
 // What a check answers: accepted, or the first failing test's reason, place and shortfall.
-#[derive(Drop)]
+#[derive(Clone, Copy)]
 pub enum Outcome {
     Accepted,
     Refused {

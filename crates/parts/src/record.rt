@@ -4,7 +4,7 @@ ghost use Rattle.std.specs.Prelude.{◌≡◌};
 ghost use Rattle.parts.specs.Parts.{size_of, is_whole, record_part, next_after, Lying};
 
 // The two kinds of files.
-#[derive(Drop)]
+#[derive(Clone, Copy)]
 pub enum Kind {
     Model,
     Delivery,

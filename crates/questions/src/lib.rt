@@ -19,7 +19,7 @@ ghost use Rattle.questions.specs.Questions.{upper_answer, lower_answer, mean_ans
 ghost use Rattle.questions.specs.Clauses.{is_short, Indexes, IfNeeded};
 
 // What is held, but for the lists of numbers: the length of the model's file, 0 where none is held, its sizes, the delivery's shape and its margin.
-#[derive(Drop)]
+#[derive(Clone, Copy)]
 pub struct Shown {
     pub length: usize,
     pub states: u8,

@@ -11,7 +11,7 @@ use shortruns::chances::chance;
 use shortruns::few_steps;
 
 // What is asked of a short run: how many steps, and the entry.
-#[derive(Drop)]
+#[derive(Clone, Copy)]
 pub struct ShortRun {
     pub steps: usize,
     pub p: usize,

@@ -17,7 +17,7 @@ use text::{put, put_byte, put_field};
 pub const REPLY_ROOM: usize = 7 + 2 * 21 + 22 + 1;
 
 // What a desk responds to a line: nothing, that it says no call, or what the register answers.
-#[derive(Drop)]
+#[derive(Clone, Copy)]
 pub enum Response {
     Silence,
     Unclear,

@@ -10,7 +10,7 @@ use spelling::arguments::{Numbers, is_file, numbers_in};
 use spelling::{is_plain, is_word, word_end};
 
 // A call that may change the register. The file that a filing or a merge names is the second word of its line.
-#[derive(Drop)]
+#[derive(Clone, Copy)]
 pub enum Change {
     Clear,
     Model,
@@ -20,7 +20,7 @@ pub enum Change {
 }
 
 // What a line says: nothing that wants a reply, no call, or a call.
-#[derive(Drop)]
+#[derive(Clone, Copy)]
 pub enum Said {
     Nothing,
     Unclear,

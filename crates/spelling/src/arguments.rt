@@ -11,7 +11,7 @@ use super::{Number, number_of, word_end};
 const MOST_NAME: usize = 255;
 
 // Words that are two numbers, or three, or four, or anything else.
-#[derive(Drop)]
+#[derive(Clone, Copy)]
 pub enum Numbers {
     Two {
         a: usize,

@@ -13,7 +13,7 @@ pub const MOST_BYTES: usize = 300;
 const MOST_DIGITS: usize = 9;
 
 // What a word is as a number.
-#[derive(Drop)]
+#[derive(Clone, Copy)]
 pub enum Number {
     Is(usize),
     Not,

@@ -24,7 +24,7 @@ fn whole_records(n: usize) -> bool
 }
 
 // What the tests of the records come to: the first refusal, if any, and else the sizes of all of them.
-#[derive(Drop)]
+#[derive(Clone, Copy)]
 struct Walked {
     found: Outcome,
     sizes: Sizes,

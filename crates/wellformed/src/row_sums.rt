@@ -14,7 +14,7 @@ use model::sizes::{Sizes, records};
 use outcome::{Outcome, Reason, refused};
 
 // The sum of a row's weights, and the record after its last.
-#[derive(Drop)]
+#[derive(Clone, Copy)]
 struct SummedRow {
     sum: u64,
     next: usize,
