@@ -4,7 +4,6 @@ use Prim.Native.Nat.{◌-◌}
 use native.Mathlib.Omega.{arith}
 use mathlib.Core.Path.{◌≡◌, sym, ◌∙◌}
 use borrow.Author.Rules.{rules}
-use borrow.Author.Tests.{not-true, not-false}
 use Rattle.outcome.proofs.Tests.{each_none, each_more, each_refused, refusal_not_accepted}
 use Rattle.outcome.specs.Tests.{first}
 use Rattle.outcome.specs.declared.Outcome.TheVariants.{Accepted}
@@ -20,7 +19,7 @@ loop-i-init c = (search rules, each_none _, before_none, sizes_none c.no_records
 
 pub returns-in-Refused : goal.returns-in-Refused
 returns-in-Refused c = let found = c.check-found.ensures in
-    let is = c.enum_told-1.given.1 in (
+    let is = c.in-Refused.is in (
       each_refused _ _ _ _ c.loop-i-test.true c.loop-i.invariant.1
           (found ∙ sym (own_decide _ _ (λ a. refusal_not_accepted _ (found ∙ a) is))) is,
       λ a. absurd (refusal_not_accepted _ a is),
@@ -28,22 +27,22 @@ returns-in-Refused c = let found = c.check-found.ensures in
 
 pub returns-then-not-ascends : goal.returns-then-not-ascends
 returns-then-not-ascends c =
-    let own : first (own_tests c.args.model.now c.loop-i.i) ≡ Accepted = sym c.check-found.ensures ∙ c.enum_told-in_default-1.given.1 in
-    let order : c.ascends.result ≡ ascends c.args.model.now c.loop-i.i =  let own : first (own_tests c.args.model.now c.loop-i.i) ≡ Accepted = sym c.check-found.ensures ∙ c.enum_told-in_default-1.given.1 in c.ascends.ensures _ c.loop-i.invariant.2 (numbered (own) c.key_number-number.ensures) in
+    let own : first (own_tests c.args.model.now c.loop-i.i) ≡ Accepted = sym c.check-found.ensures ∙ c.in_default.is in
+    let order : c.ascends.result ≡ ascends c.args.model.now c.loop-i.i =  let own : first (own_tests c.args.model.now c.loop-i.i) ≡ Accepted = sym c.check-found.ensures ∙ c.in_default.is in c.ascends.ensures _ c.loop-i.invariant.2 (numbered (own) c.key_number-number.ensures) in
     let turn = c in
-    let fails = order_fails _ _ (own) (sym (order) ∙ not-true _ c.if-not-ascends.true) in (
+    let fails = order_fails _ _ (own) (sym (order) ∙ c.if-not-ascends.true) in (
       each_refused _ _ _ _ turn.loop-i-test.true turn.loop-i.invariant.1 (c.refused-found.ensures ∙ sym fails) c.refused-found.ensures,
       λ a. absurd (refusal_not_accepted _ a c.refused-found.ensures),
     )
 
 pub loop-i-preserved : goal.loop-i-preserved
 loop-i-preserved c =
-    let own : first (own_tests c.args.model.now c.loop-i.i) ≡ Accepted = sym c.check-found.ensures ∙ c.enum_told-in_default-1.given.1 in
-    let order : c.ascends.result ≡ ascends c.args.model.now c.loop-i.i =  let own : first (own_tests c.args.model.now c.loop-i.i) ≡ Accepted = sym c.check-found.ensures ∙ c.enum_told-in_default-1.given.1 in c.ascends.ensures _ c.loop-i.invariant.2 (numbered (own) c.key_number-number.ensures) in
+    let own : first (own_tests c.args.model.now c.loop-i.i) ≡ Accepted = sym c.check-found.ensures ∙ c.in_default.is in
+    let order : c.ascends.result ≡ ascends c.args.model.now c.loop-i.i =  let own : first (own_tests c.args.model.now c.loop-i.i) ≡ Accepted = sym c.check-found.ensures ∙ c.in_default.is in c.ascends.ensures _ c.loop-i.invariant.2 (numbered (own) c.key_number-number.ensures) in
     (
   omega arith,
   each_more _ _ c.loop-i.invariant.1
-      (record_passes _ _ (own) (sym (order) ∙ not-false _ c.if-not-ascends.false)),
+      (record_passes _ _ (own) (sym (order) ∙ c.if-not-ascends.false)),
   before_next (numbered (own) c.key_number-number.ensures),
   c.with_record-sizes.ensures,
 )

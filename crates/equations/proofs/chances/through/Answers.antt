@@ -11,12 +11,12 @@ use Rattle.equations.proofs.chances.through.Goals as goal
 pub value-requires-clause-sizes : goal.value-requires-clause-sizes
 value-requires-clause-sizes c = let pre = c.requires in
     let names = record_names pre.sizes.0 pre.inside.0 in
-    ((sized_fits pre.sizes.0, pre.sizes.1.whole), (omega arith, omega arith, pre.inside.1))
+    (sized_fits pre.sizes.0, pre.sizes.1.whole)
 
 pub value-requires-clause-inside : goal.value-requires-clause-inside
 value-requires-clause-inside c = let pre = c.requires in
     let names = record_names pre.sizes.0 pre.inside.0 in
-    ((sized_fits pre.sizes.0, pre.sizes.1.whole), (omega arith, omega arith, pre.inside.1))
+    (omega arith, omega arith, pre.inside.1)
 
 pub returns-then-l-eq1 : goal.returns-then-l-eq1
 returns-then-l-eq1 c =
@@ -30,9 +30,9 @@ returns-then-l-eq1 c =
 pub through_two-requires-clause-sizes : goal.through_two-requires-clause-sizes
 through_two-requires-clause-sizes c = let pre = c.requires in
     let names = record_names pre.sizes.0 pre.inside.0 in
-    ((sized_fits pre.sizes.0, pre.sizes.1), (omega arith, omega arith, omega arith, pre.inside.1))
+    (sized_fits pre.sizes.0, pre.sizes.1)
 
 pub through_two-requires-clause-inside : goal.through_two-requires-clause-inside
 through_two-requires-clause-inside c = let pre = c.requires in
     let names = record_names pre.sizes.0 pre.inside.0 in
-    ((sized_fits pre.sizes.0, pre.sizes.1), (omega arith, omega arith, omega arith, pre.inside.1))
+    (omega arith, omega arith, omega arith, pre.inside.1)
