@@ -12,7 +12,7 @@ loop-t-init c = states_none
 
 pub overflow_add-sum : goal.overflow_add-sum
 overflow_add-sum c =
-    let summed : c.loop-t.sum + c.value.result * c.mean.result ≤ 2 ^ 46 = let pre = c.requires in states_within (loop-again c) _ pre.sizes.0.few_states (λ t. mul-le-mul (upper_most pre.sizes.1 _ _ _ _ _) (pre.sizes.2.most _)) in
+    let summed : c.loop-t.sum + c.value.result * c.mean.result ≤ 2 ^ 46 = let pre = c.requires in states_within ((states_more c.loop-t.invariant c.loop-t-test.true (ap₂ ◌*◌ c.value.ensures.0 c.mean.ensures.0))) _ pre.sizes.0.few_states (λ t. mul-le-mul (upper_most pre.sizes.1 _ _ _ _ _) (pre.sizes.2.most _)) in
     omega (arith, summed)
 
 pub loop-t-preserved : goal.loop-t-preserved
