@@ -31,7 +31,7 @@ returns-then-l-eq1 c =
     let read = c in
     let args = read.args in
     let alone = pushes_one _ _ _ (sym read.pushes-l.ensures.0 ∙ c.if-l-eq1.true) in
-    through_one args.n.states args.n.symbols args.marks.now _ q alone (row_read read)
+    through_one args.n.states args.n.symbols args.marks.now _ q alone row_read
 
 pub exits_of_two-requires : goal.exits_of_two-requires
 exits_of_two-requires c = let start = c in

@@ -33,8 +33,8 @@ loop-left-preserved c = let at = c in
       (
         done + 1,
         omega arith,
-        marks_next at.requires.0.sized _ done held round c.copy.ensures.0
-            (λ e l. c.copy.ensures.1 e (omega (arith, at.rows-rows.ensures.0))),
+        marks_next at.requires.0.sized _ done held round c.copy.ensures.size
+            (λ e l. c.copy.ensures.copied e (omega (arith, at.rows-rows.ensures.0))),
       ),
     )
 

@@ -1,0 +1,14 @@
+use Prim.Native.Nat.{◌-◌, ◌≤◌}
+use mathlib.Core.Path.{◌≡◌}
+use Rattle.outcome.specs.Tests.{first}
+use Rattle.walks.specs.Lists.{each}
+use Rattle.outcome.specs.declared.Outcome.TheVariants.{Accepted}
+use Rattle.walks.specs.Order.{rows_in}
+use Rattle.model.specs.Format.{most_rows}
+use Rattle.inequalities.proofs.means.check.Given as goal
+
+abbrev pub invariant-loop-k : goal.invariant-loop-k
+invariant-loop-k l = (l.k ≤ l.rows) × (l.rows ≡ rows_in l.n.states l.n.symbols) × (l.rows ≤ most_rows) × (first (each l.k (rowTest l.model l.n l.uppers l.means l.from)) ≡ Accepted)
+
+abbrev pub decreases-loop-k : goal.decreases-loop-k
+decreases-loop-k l = l.rows - l.k
