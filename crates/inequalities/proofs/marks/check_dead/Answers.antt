@@ -16,10 +16,11 @@ loop-k-init c = (search rules, c.rows-rows.ensures.0, c.rows-rows.ensures.1, eac
 
 pub returns-in-Refused : goal.returns-in-Refused
 returns-in-Refused c =
-    let walked : let args = c.args in each (rows_in args.n.states args.n.symbols) (dead_row args.n args.live.now args.block.now args.from) ≡ dead_block args.n args.live.now args.block.now args.from = sym (entries_by_row c.args.n.states c.args.n.symbols _) in
+    let walked : let args = c.args in each (rows_in args.n.states args.n.symbols) (dead_row args.n args.live.now args.block.now args.from) ≡ dead_block args.n args.live.now args.block.now args.from =
+        sym (entries_by_row c.args.n.states c.args.n.symbols _) in
     each_refused _ _ _ _ (omega arith) c.loop-k.invariant.3
     c.check_dead_row-found.ensures c.in-Refused.is
-    ∙ ap first (walked)
+    ∙ ap first walked
 
 pub loop-k-preserved : goal.loop-k-preserved
 loop-k-preserved c = (
@@ -31,5 +32,6 @@ loop-k-preserved c = (
 
 pub returns : goal.returns
 returns c =
-    let walked : let args = c.args in each (rows_in args.n.states args.n.symbols) (dead_row args.n args.live.now args.block.now args.from) ≡ dead_block args.n args.live.now args.block.now args.from = sym (entries_by_row c.args.n.states c.args.n.symbols _) in
-    sym (each_end _ _ _ c.loop-k.invariant.3 (omega arith)) ∙ ap first (walked)
+    let walked : let args = c.args in each (rows_in args.n.states args.n.symbols) (dead_row args.n args.live.now args.block.now args.from) ≡ dead_block args.n args.live.now args.block.now args.from =
+        sym (entries_by_row c.args.n.states c.args.n.symbols _) in
+    sym (each_end _ _ _ c.loop-k.invariant.3 (omega arith)) ∙ ap first walked

@@ -13,17 +13,18 @@ use Rattle.inequalities.specs.Clauses.{side_row, side_block}
 use Rattle.inequalities.proofs.sides.check.Goals as goal
 
 pub rows-rows-requires : goal.rows-rows-requires
-rows-rows-requires c = sized_fits c.requires.files.sized
+rows-rows-requires c = sized_fits c.requires.0.sized
 
 pub loop-k-init : goal.loop-k-init
 loop-k-init c = (search rules, c.rows-rows.ensures.0, c.rows-rows.ensures.1, each_none _)
 
 pub returns-in-Refused : goal.returns-in-Refused
 returns-in-Refused c =
-    let walked : let args = c.args in each (rows_in args.n.states args.n.symbols) (side_row args.side args.model.now args.n args.live.now args.block.now) ≡ side_block args.side args.model.now args.n args.live.now args.block.now = sym (entries_by_row c.args.n.states c.args.n.symbols _) in
+    let walked : let args = c.args in each (rows_in args.n.states args.n.symbols) (side_row args.side args.model.now args.n args.live.now args.block.now) ≡ side_block args.side args.model.now args.n args.live.now args.block.now =
+        sym (entries_by_row c.args.n.states c.args.n.symbols _) in
     each_refused _ _ _ _ (omega arith) c.loop-k.invariant.3
     c.check_row-found.ensures c.in-Refused.is
-    ∙ ap first (walked)
+    ∙ ap first walked
 
 pub loop-k-preserved : goal.loop-k-preserved
 loop-k-preserved c = (
@@ -35,5 +36,6 @@ loop-k-preserved c = (
 
 pub returns : goal.returns
 returns c =
-    let walked : let args = c.args in each (rows_in args.n.states args.n.symbols) (side_row args.side args.model.now args.n args.live.now args.block.now) ≡ side_block args.side args.model.now args.n args.live.now args.block.now = sym (entries_by_row c.args.n.states c.args.n.symbols _) in
-    sym (each_end _ _ _ c.loop-k.invariant.3 (omega arith)) ∙ ap first (walked)
+    let walked : let args = c.args in each (rows_in args.n.states args.n.symbols) (side_row args.side args.model.now args.n args.live.now args.block.now) ≡ side_block args.side args.model.now args.n args.live.now args.block.now =
+        sym (entries_by_row c.args.n.states c.args.n.symbols _) in
+    sym (each_end _ _ _ c.loop-k.invariant.3 (omega arith)) ∙ ap first walked
