@@ -185,19 +185,11 @@ chance_of_pair-overflow_mul-sum-in-loop-k t c =
         pair_split _ _ _ (sized_fits c.requires.files.sized).some_states c.loop-k.invariant.0 c.loop-k-test.true in
     let first-steps : let start = c.args in let s = start.n.states in (65536 * c.chance-before.result ≤ c.chance-within.result) × (c.chance-within.result - 65536 * c.chance-before.result ≡ exactly (rules_of start.model.now) (c.loop-k.k / s) (target start.model.now start.i) (top start.model.now start.i ∷ []) (c.loop-k.k % s)) =
         let names = record_names c.requires.files.sized c.requires.inside.2 in exactly_is_difference _ _ _ _ _ parted.0 (c.chance-within.ensures.0 ∙ at_row _ _ _ _ _ _ names.1 first-row) (c.chance-before.ensures.0 ∙ at_row _ _ _ _ _ _ names.1 first-row) in
-    omega (arith, pair_limit c.requires.files.sized _ _ c.requires.inside.2 ((
-    let first-row : c.row-first.result ≡ row_at c.args.n.symbols (target c.args.model.now c.args.i) (top c.args.model.now c.args.i) =
-        c.row-first.ensures.0 ∙ ap₂ (row_at c.args.n.symbols) c.target.ensures.0 c.top.ensures.0 in
-    let parted : let s = c.args.n.states in (0 < c.loop-k.k / s) × (c.loop-k.k / s < c.args.steps) × (c.loop-k.k % s < s) =
-        pair_split _ _ _ (sized_fits c.requires.files.sized).some_states c.loop-k.invariant.0 c.loop-k-test.true in
-    let first-steps : let start = c.args in let s = start.n.states in (65536 * c.chance-before.result ≤ c.chance-within.result) × (c.chance-within.result - 65536 * c.chance-before.result ≡ exactly (rules_of start.model.now) (c.loop-k.k / s) (target start.model.now start.i) (top start.model.now start.i ∷ []) (c.loop-k.k % s)) =
-        let names = record_names c.requires.files.sized c.requires.inside.2 in exactly_is_difference _ _ _ _ _ parted.0 (c.chance-within.ensures.0 ∙ at_row _ _ _ _ _ _ names.1 first-row) (c.chance-before.ensures.0 ∙ at_row _ _ _ _ _ _ names.1 first-row) in
-    let names = record_names c.requires.files.sized c.requires.inside.2 in (
-      omega (arith, c.loop-k.invariant.0),
+    omega (arith, pair_limit c.requires.files.sized _ _ c.requires.inside.2 (
+    let names = record_names c.requires.files.sized c.requires.inside.2 in
       states_more c.loop-k.invariant.1 c.loop-k-test.true
           (ap₂ ◌*◌ first-steps.1
-          (c.chance.ensures.0 ∙ at_row _ _ _ _ _ _ names.2 (c.row.ensures.0 ∙ ap (row_at _ _) c.under-x.ensures.0))),
-    ))).1 c.requires.inside.1)
+          (c.chance.ensures.0 ∙ at_row _ _ _ _ _ _ names.2 (c.row.ensures.0 ∙ ap (row_at _ _) c.under-x.ensures.0)))) c.requires.inside.1)
 
 pub chance_of_pair-overflow_add-sum : goal.chance_of_pair-overflow_add-sum
 chance_of_pair-overflow_add-sum t c =
@@ -207,19 +199,11 @@ chance_of_pair-overflow_add-sum t c =
         pair_split _ _ _ (sized_fits c.requires.files.sized).some_states c.loop-k.invariant.0 c.loop-k-test.true in
     let first-steps : let start = c.args in let s = start.n.states in (65536 * c.chance-before.result ≤ c.chance-within.result) × (c.chance-within.result - 65536 * c.chance-before.result ≡ exactly (rules_of start.model.now) (c.loop-k.k / s) (target start.model.now start.i) (top start.model.now start.i ∷ []) (c.loop-k.k % s)) =
         let names = record_names c.requires.files.sized c.requires.inside.2 in exactly_is_difference _ _ _ _ _ parted.0 (c.chance-within.ensures.0 ∙ at_row _ _ _ _ _ _ names.1 first-row) (c.chance-before.ensures.0 ∙ at_row _ _ _ _ _ _ names.1 first-row) in
-    omega (arith, pair_limit c.requires.files.sized _ _ c.requires.inside.2 ((
-    let first-row : c.row-first.result ≡ row_at c.args.n.symbols (target c.args.model.now c.args.i) (top c.args.model.now c.args.i) =
-        c.row-first.ensures.0 ∙ ap₂ (row_at c.args.n.symbols) c.target.ensures.0 c.top.ensures.0 in
-    let parted : let s = c.args.n.states in (0 < c.loop-k.k / s) × (c.loop-k.k / s < c.args.steps) × (c.loop-k.k % s < s) =
-        pair_split _ _ _ (sized_fits c.requires.files.sized).some_states c.loop-k.invariant.0 c.loop-k-test.true in
-    let first-steps : let start = c.args in let s = start.n.states in (65536 * c.chance-before.result ≤ c.chance-within.result) × (c.chance-within.result - 65536 * c.chance-before.result ≡ exactly (rules_of start.model.now) (c.loop-k.k / s) (target start.model.now start.i) (top start.model.now start.i ∷ []) (c.loop-k.k % s)) =
-        let names = record_names c.requires.files.sized c.requires.inside.2 in exactly_is_difference _ _ _ _ _ parted.0 (c.chance-within.ensures.0 ∙ at_row _ _ _ _ _ _ names.1 first-row) (c.chance-before.ensures.0 ∙ at_row _ _ _ _ _ _ names.1 first-row) in
-    let names = record_names c.requires.files.sized c.requires.inside.2 in (
-      omega (arith, c.loop-k.invariant.0),
+    omega (arith, pair_limit c.requires.files.sized _ _ c.requires.inside.2 (
+    let names = record_names c.requires.files.sized c.requires.inside.2 in
       states_more c.loop-k.invariant.1 c.loop-k-test.true
           (ap₂ ◌*◌ first-steps.1
-          (c.chance.ensures.0 ∙ at_row _ _ _ _ _ _ names.2 (c.row.ensures.0 ∙ ap (row_at _ _) c.under-x.ensures.0))),
-    ))).1 c.requires.inside.1)
+          (c.chance.ensures.0 ∙ at_row _ _ _ _ _ _ names.2 (c.row.ensures.0 ∙ ap (row_at _ _) c.under-x.ensures.0)))) c.requires.inside.1)
 
 pub chance_of_pair-overflow_add-k : goal.chance_of_pair-overflow_add-k
 chance_of_pair-overflow_add-k t c = omega (arith, mul-le-mul (sized_fits c.requires.files.sized).few_states c.requires.inside.1)
