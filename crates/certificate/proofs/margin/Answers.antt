@@ -27,7 +27,7 @@ margin_with_lowers-requires c =
     let shape = c in
     let sizes = shape in (
       record {
-        file = record { sized = sized sizes; of = sym shape.shape_of.ensures ∙ shape.in-Of.is };
+        file = record { sized = sized; of = sym shape.shape_of.ensures ∙ shape.in-Of.is };
         accepted = accepted;
       },
       sym c.has_lowers.ensures ∙ c.if-has_lowers.true,

@@ -17,6 +17,9 @@ slice_bounds-uppers-end c = let whole = uppers_fit _ _ _ _ c.requires.file.of in
 pub slice_bounds-rest-count : goal.slice_bounds-rest-count
 slice_bounds-rest-count c = omega (arith, uppers_fit _ _ _ _ c.requires.file.of)
 
+pub slice_bounds-rest-start : goal.slice_bounds-rest-start
+slice_bounds-rest-start c = omega (arith, uppers_fit _ _ _ _ c.requires.file.of)
+
 pub check_dead-found-requires-clause-sizes : goal.check_dead-found-requires-clause-sizes
 check_dead-found-requires-clause-sizes c = let entries = c in
     let pre = entries.requires in

@@ -1,14 +1,13 @@
 -- `check_lowers`: the lowers are the first V records of the rest. 25 is tested first, then 26, and where no lowers stand nothing is tested.
 use mathlib.Core.Bool.{true}
 use mathlib.Core.Path.{◌≡◌, sym}
-use borrow.Author.Tests.{not-true}
 use Rattle.outcome.proofs.Tests.{first_empty}
 use Rattle.model.proofs.Accepted.{sized_fits}
 use Rattle.certificate.proofs.Steps.{below_refused, lower_found}
 use Rattle.certificate.proofs.numbers.check_lowers.Goals as goal
 
 pub returns-then-not-lowers : goal.returns-then-not-lowers
-returns-then-not-lowers c = rw (not-true c.args.lowers c.if-not-lowers.true) (sym first_empty)
+returns-then-not-lowers c = rw (c.if-not-lowers.true) (sym first_empty)
 
 pub entries-v-requires : goal.entries-v-requires
 entries-v-requires c = sized_fits c.requires.files.0.sized

@@ -1,13 +1,12 @@
 -- `dead_lowers`: the lowers are the first V records of the rest, and where none stand nothing is tested.
 use mathlib.Core.Bool.{true}
 use mathlib.Core.Path.{◌≡◌, sym}
-use borrow.Author.Tests.{not-true}
 use Rattle.outcome.proofs.Tests.{first_empty}
 use Rattle.certificate.proofs.Steps.{dead_found}
 use Rattle.certificate.proofs.numbers.dead_lowers.Goals as goal
 
 pub returns-then-not-lowers : goal.returns-then-not-lowers
-returns-then-not-lowers c = rw (not-true c.args.lowers c.if-not-lowers.true) (sym first_empty)
+returns-then-not-lowers c = rw (c.if-not-lowers.true) (sym first_empty)
 
 pub returns : goal.returns
 returns c =
