@@ -1,0 +1,13 @@
+-- `by_entries`: each turn puts the mark of one more entry, whose row and exit are the quotient and the rest of its number by s.
+use Prim.Native.Nat.{◌-◌}
+use native.Mathlib.Omega.{arith}
+use mathlib.Core.Path.{refl}
+use Rattle.model.specs.Format.{most_entries}
+use Rattle.held.proofs.Listed.{entries_none, entries_all}
+use Rattle.held.proofs.lists.by_entries.Goals as goal
+
+pub loop-e-init : goal.loop-e-init
+loop-e-init c = (omega arith, c.entries-most.ensures.1, entries_none _ _ most_entries refl)
+
+pub returns : goal.returns
+returns c = entries_all c.loop-e.invariant.2 _ (omega (arith, c.entries-most.ensures.0))

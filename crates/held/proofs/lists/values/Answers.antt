@@ -1,0 +1,8 @@
+-- `values`: after e turns the list has the values of the first e records, and 0 from there on.
+use Prim.Native.Nat.{◌-◌}
+use borrow.Author.Rules.{rules}
+use Rattle.held.proofs.Listed.{values_none}
+use Rattle.held.proofs.lists.values.Goals as goal
+
+pub loop-e-init : goal.loop-e-init
+loop-e-init c = (search rules, values_none _)
