@@ -14,7 +14,7 @@ ghost use Rattle.held.specs.Held.{is_held, shape_held, is_held_as, lowers_stand,
 
 // A held model: its file's bytes in the first `length` places, and what is worked out from them once. No model is held where the length is 0
 // (or above MOST_BYTES, which no call makes).
-#[derive(Drop)]
+#[derive(Clone, Copy)]
 pub struct HeldModel {
     pub bytes: [u8; MOST_BYTES],
     pub length: usize,
@@ -31,7 +31,7 @@ pub enum HeldDelivery {
 }
 
 // The numbers of a held delivery, and its margin: 0 where there are none. Uppers and lowers stand by exit (request A.6), mean steps in the order of files.
-#[derive(Drop)]
+#[derive(Clone, Copy)]
 pub struct Numbers {
     pub uppers: [u32; MOST_ENTRIES],
     pub lowers: [u32; MOST_ENTRIES],
