@@ -6,4 +6,4 @@ use Rattle.bounds.specs.Codes.{shortfall_of}
 use Rattle.bounds.proofs.bounds_delivery_shortfall.Goals as goal
 
 pub returns-in-Refused : goal.returns-in-Refused
-returns-in-Refused c = let fits = (rw c.in-Refused.is at c.check-found.type_inv).2 in ?
+returns-in-Refused c = let fits = (rw c.in-Refused.is at c.check-found.type_inv).1.1.1 in ?

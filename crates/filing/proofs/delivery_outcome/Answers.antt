@@ -17,7 +17,7 @@ returns-then-not-holds_model c = c.refused.ensures ∙ sym (no_model_held _ _ (s
 pub slice_bounds-bytes-end : goal.slice_bounds-bytes-end
 slice_bounds-bytes-end c =
     let bytes-size : length c.args.held.bytes ≡ most_bytes =
-        sym (length-map c.args.held.bytes (λ v. v)) ∙ c.well_formed.0.1.1.0.1.0.1 in
+        c.well_formed.0.1.1.0.1.0.1 in
     let holds : holds_model c.args.held.length ≡ true =
         sym c.holds_model.ensures ∙ c.if-not-holds_model.false in
     let within : let model = c.args.held in model.length ≤ length model.bytes =
@@ -27,7 +27,7 @@ slice_bounds-bytes-end c =
 pub slice_bounds-check-end : goal.slice_bounds-check-end
 slice_bounds-check-end c =
     let bytes-size : length c.args.held.bytes ≡ most_bytes =
-        sym (length-map c.args.held.bytes (λ v. v)) ∙ c.well_formed.0.1.1.0.1.0.1 in
+        c.well_formed.0.1.1.0.1.0.1 in
     let holds : holds_model c.args.held.length ≡ true =
         sym c.holds_model.ensures ∙ c.if-not-holds_model.false in
     let within : let model = c.args.held in model.length ≤ length model.bytes =
