@@ -6,4 +6,6 @@ use Rattle.bounds.specs.Codes.{shortfall_of}
 use Rattle.bounds.proofs.bounds_delivery_shortfall.Goals as goal
 
 pub returns-in-Refused : goal.returns-in-Refused
-returns-in-Refused c = let fits = (rw c.in-Refused.is at c.check-found.type_inv).1.1.1 in ?
+returns-in-Refused c =
+    to_z-of_z (record { sfits = c.in-Refused.known_told-1-own.given.1.1.0.1 })
+    ∙ ap shortfall_of (sym c.in-Refused.is ∙ model_decides _ _ _ c.check-found.ensures c.in-Refused.is)
