@@ -1,5 +1,5 @@
 -- What is written is read back: a line's words are those it was made of, and a decimal says its number.
-use Prim.Native.Nat.{ℕ, zero, suc, ◌+◌, ◌-◌, ◌*◌, ◌/◌, ◌%◌, ◌^◌, ◌<◌, ◌≤◌}
+use Prim.Native.Nat.{ℕ, zero, suc, ◌+◌, ◌-◌, ◌*◌, ◌/◌, ◌%◌, ◌^◌, ◌<◌}
 use native.Mathlib.Nat.{pow-succ'}
 use native.Mathlib.Omega.{arith}
 use mathlib.Core.Bool.{Bool, true, false, cond, not, ◌&&◌, and-eq-true_iff}
@@ -7,12 +7,12 @@ use mathlib.Core.List.{List, [], ◌∷◌, ◌++◌, map, append-nil, append_as
 use mathlib.Core.Logic.{◌⊎◌, inl, inr}
 use mathlib.Core.Path.{◌≡◌, refl, sym, ap, ◌∙◌}
 use lib.Dec.{eqb, ltb}
-use borrow.Author.Tests.{ltb-true, ltb-false, ne_eqb, not-true}
+use borrow.Author.Tests.{ne_eqb, not-true}
 use Rattle.walks.specs.Lists.{each}
 use Rattle.walks.specs.Sums.{In}
 use Rattle.text.specs.Decimal.{digits_to, decimal}
 use Rattle.text.specs.Texts.{fields}
-use Rattle.text.specs.Reading.{in_front, pieces, words_in, number_after, number_in}
+use Rattle.text.specs.Reading.{pieces, words_in, number_after, number_in}
 
 -- ---- words of a line
 
@@ -93,6 +93,7 @@ words_of_line w xs rest is ws =
 -- A text with no line has one empty word.
 pub words_of_nothing : (x : List (List ℕ)) → In x (words_in []) → x ≡ [] ∷ []
 unfolding words_in pieces
+words_of_nothing x (inr i) = elim i [ ]
 words_of_nothing x (inl e) = e
 
 -- The words of texts one after the other are those of one of them, or of what follows. `Of e x` says that x are the words of text number e.
