@@ -6,11 +6,8 @@ use Rattle.text.proofs.Puts.{put_as}
 use Rattle.text.proofs.put_number.Goals as goal
 
 pub returns : goal.returns
-returns c = let put = c in
-    let told = put in
-    let start = told in
-    let told = told.decimal-k in
-    let n = start.args.n in (
-      put_as (told.ensures.digits ∙ fewest_decimal n told.result (omega arith) told.ensures.len) put.put.ensures,
+returns c = let told = c.decimal-k in
+    let n = c.args.n in (
+      put_as (told.ensures.digits ∙ fewest_decimal n told.result (omega arith) told.ensures.len) c.put.ensures,
       omega (arith, fewest_most n told.result (omega arith) told.ensures.len),
     )
