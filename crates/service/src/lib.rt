@@ -14,6 +14,7 @@ use replies::{REPLY_ROOM, put_response};
 use rows::STARTS;
 use said::{Change, Said, said_by};
 use script::{Responded, answer, asks_short, change, may_change, reads_file};
+use std::rt::Files;
 
 // The bytes that are kept of a line: one more than a line that says a call may have.
 const KEPT: usize = 301;
@@ -66,7 +67,14 @@ fn name_from(change: Change) -> usize
 }
 
 // Reads the file that a line names, as much as `file` holds. Nobody may ask for it before the register's own reasons: whether a model and a delivery are held.
-fn fetch(model: bool, delivery: bool, said: Said, line: &[u8], file: &mut [u8]) -> usize
+fn fetch(
+    rt: &(impl Files + Eprint),
+    model: bool,
+    delivery: bool,
+    said: Said,
+    line: &[u8],
+    file: &mut [u8],
+) -> usize
     requires { reads_file model delivery said ≡ true }
     ensures { IsPrefixLen result file.new }
 {
@@ -77,12 +85,12 @@ fn fetch(model: bool, delivery: bool, said: Said, line: &[u8], file: &mut [u8]) 
     if line.len() < from {
         return 0;
     }
-    files::read(&line[from..], file)
+    files::read(rt, &line[from..], file)
 }
 
 // Makes the change that a line asks for. Its file is read only if the register has no reason of its own to refuse it, and one byte more of it than any
 // delivery, model or counter file has that can pass, so that a longer file is refused by its number.
-fn perform(register: Register, said: Said, line: &[u8]) -> Responded
+fn perform(rt: &(impl Files + Eprint), register: Register, said: Said, line: &[u8]) -> Responded
     ensures { Performed register said result }
 {
     let model = register.has_model();
@@ -91,7 +99,7 @@ fn perform(register: Register, said: Said, line: &[u8]) -> Responded
         return change(register, said, b"");
     }
     let mut file = [0u8; delivery::format::MOST_BYTES + 1];
-    let n = fetch(model, delivery, said, line, &mut file);
+    let n = fetch(rt, model, delivery, said, line, &mut file);
     change(register, said, &file[..n])
 }
 
@@ -130,7 +138,7 @@ fn finished(
 
 // Takes a piece of input, as much of it as there is surely room for the replies to, and prints these from the start of `out` on. Questions are answered
 // from a view v of the register and its lists of numbers, which are taken anew after each change; what short runs need of the model is found when one is first asked for in the piece or after a change.
-pub fn serve(desk: Desk, piece: &[u8], out: &mut [u8]) -> Served
+pub fn serve(rt: &(impl Files + Eprint), desk: Desk, piece: &[u8], out: &mut [u8]) -> Served
     ensures { Took desk piece.now out.old out.new result }
 {
     let taken = least(piece.len(), out.len() / REPLY_ROOM);
@@ -150,7 +158,7 @@ pub fn serve(desk: Desk, piece: &[u8], out: &mut [u8]) -> Served
         }
         let said = said_by(&line[..kept]);
         if may_change(said) {
-            let changed = perform(register, said, &line[..kept]);
+            let changed = perform(rt, register, said, &line[..kept]);
             kept = 0;
             let after = changed.register;
             register = after;
