@@ -21,7 +21,7 @@ use questions::{LISTS, Shown, View, index};
 use rows::STARTS;
 
 // At most one model and one delivery: the held delivery's shape, and its numbers beside it.
-#[derive(Drop)]
+#[derive(Clone, Copy)]
 pub struct Register {
     model: HeldModel,
     delivery: HeldDelivery,
@@ -29,14 +29,14 @@ pub struct Register {
 }
 
 // What filing a model gives: the register after it, and the outcome.
-#[derive(Drop)]
+#[derive(Clone, Copy)]
 pub struct Filed {
     pub register: Register,
     pub outcome: Outcome,
 }
 
 // What filing a delivery gives: the register after it, the outcome, and the mark of an accepted delivery.
-#[derive(Drop)]
+#[derive(Clone, Copy)]
 pub struct Received {
     pub register: Register,
     pub outcome: Outcome,
