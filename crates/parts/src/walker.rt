@@ -22,7 +22,7 @@ pub fn walk<'a>(file: &'a [u8]) -> Walker<'a>
 
 // The record that is next, or the empty part at the start of the file where there is none.
 pub fn current<'a>(w: Walker<'a>, kind: Kind) -> &'a [u8]
-    ensures { Lying w.entry.file.ptr.0 w.entry.file.ptr.1 w.entry.file.now
+    ensures { Lying w.entry.file.ref_ptr.0 w.entry.file.ref_ptr.1 w.entry.file.now
         (record_part kind w.entry.file.now w.entry.next)
         result.ref_ptr.0 result.ref_ptr.1 result.now }
 {

@@ -4,4 +4,4 @@ use Rattle.parts.proofs.record.is_whole.Goals as goal
 
 pub returns : goal.returns
 unfolding is_whole
-returns c = rw c.type_size.ensures
+returns c = rw c.size_of.ensures
