@@ -391,7 +391,7 @@ def make_copy(work, rows):
 
 def without_prefixes(text):
     """What rt says, without the prefixes of modules."""
-    return re.sub(r"\b(?:Rattle\.\w+|mathlib|native|lib|mir|borrow|denote|Prim)(?:\.[\w-]+)*\.(?=[\w◌«])", "", text)
+    return re.sub(r"(?<![/\w])(?:Rattle\.\w+|mathlib|native|lib|mir|borrow|denote|Prim)(?:\.[\w-]+)*\.(?=[\w◌«])", "", text)
 
 
 def shown(row, edit, twin):
