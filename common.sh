@@ -136,7 +136,7 @@ out_of_date() { # NAME
 
 # Of what rt says its own lines alone, one for each crate that is proved, to standard error; the rest is read where nobody can be told.
 a_line_a_crate() {
-    sed -un -e '/^rt: running /d' -e 's/^rt: chose --jobs .* for /proving /p;t' -e 's/^rt: //p' >&2 2>/dev/null || cat >/dev/null
+    sed -un -e '/^rt: running /d' -e 's/^rt: chose --jobs .* for /proving /p' -e 's/^rt: //p' >&2 2>/dev/null || cat >/dev/null
 }
 
 # Proves and builds a program. rt runs it too, on no input, and ends with its status, which tells nothing of the proof: that it runs one does. By its bytes

@@ -95,7 +95,7 @@ WRONG = [
     ("common.sh", '    is_linked "$1" || rm -f "$root/crates/$1/out/$1"\n', ""),
     ("common.sh", "sed -un -e", "cat; : -e"),
     ("common.sh", "-e '/^rt: running /d' ", ""),
-    ("common.sh", "/p;t'", "/p'"),
+    ("common.sh", "-e 's/^rt: chose --jobs .* for /proving /p' ", ""),
     ("common.sh", " 2>/dev/null || cat >/dev/null", ""),
     ("common.sh", '| tee "$root/$log" |', "|"),
     ("common.sh", '| tee "$root/$log" |', '| tee -a "$root/$log" |'),
