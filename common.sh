@@ -90,16 +90,30 @@ made_of() { # NAME
             for (i = 1; i <= count; i++) visit(needed[i])
         }
         { sub(/#.*/, "") }
-        split($0, part, ":") == 2 { gsub(/[ \t]/, "", part[1]); needs[part[1]] = part[2] }
+        split($0, part, ":") == 2 { split(part[1], word, " "); needs[word[1]] = part[2] }
         END { visit(wanted) }' "$root/crates.txt"
 }
 
-is_linked() { # NAME
-    [ -f "$root/target/bin/$1" ] && [ -x "$root/target/bin/$1" ]
+# The files that a program is made of, or those of them that pass a test of find. What rt makes is in out/, and no program has anything of must-fail/.
+parts_of() { # NAME TEST..
+    name=$1
+    shift
+    # shellcheck disable=SC2046
+    (cd "$root" && find crates.txt $(made_of "$name") -regex 'crates/[^/]*/\(out\|must-fail\)' -prune -o ! -type d "$@" -print) 2>&1 | LC_ALL=C sort
 }
 
-# Why a program has to be built, or nothing. target/NAME.built has the kit that built it, and for its time that at which the last build began. A file's
-# time of change is what counts, which nobody can set back; a folder's tells that a file in it is gone.
+# What tells later whether a program that is built now is up to date: the kit, and the names of the files. Its time is that at which the build began.
+note() { # NAME
+    rt version
+    parts_of "$1"
+}
+
+is_linked() { # NAME
+    [ -f "$root/crates/$1/out/$1" ] && [ -x "$root/crates/$1/out/$1" ]
+}
+
+# Why a program has to be built, or nothing. target/NAME.built has the note of the last build. A file's time of change is what counts, which nobody can set
+# back, and that no name is gone or new.
 out_of_date() { # NAME
     built=target/$1.built
     if ! is_linked "$1"; then
@@ -109,40 +123,34 @@ out_of_date() { # NAME
         echo "$1 is there, and nothing tells that it is up to date"
         return
     fi
-    # shellcheck disable=SC2046
-    changed=$(cd "$root" && find crates.txt $(made_of "$1") -name must-fail -prune -o -cnewer "$built" -print -quit 2>&1)
+    changed=$(parts_of "$1" -cnewer "$built" | sed 1q)
     kit=$(rt version 2>/dev/null) || kit=
     if [ -n "$changed" ]; then
         echo "$1 is older than $changed"
-    elif [ -n "$kit" ] && [ "$kit" != "$(cat "$root/$built")" ]; then
+    elif [ "$(parts_of "$1")" != "$(sed 1d "$root/$built")" ]; then
+        echo "$1 was made of other files"
+    elif [ -n "$kit" ] && [ "$kit" != "$(sed 1q "$root/$built")" ]; then
         echo "$1 is of another kit"
     fi
 }
 
-# rt goes by its stamps alone: where what a crate was built to is gone, its stamp has to go too.
-forget_lost() { # NAME
-    for crate in $(made_of "$1"); do
-        name=${crate#crates/}
-        [ -e "$root/target/rlib/$name.rlib" ] || is_linked "$name" || rm -f "$root/target/stamp/$name"
-    done
-}
-
-# Of what rt says its own lines alone, one for each crate, to standard error; the rest is read where nobody can be told.
+# Of what rt says its own lines alone, one for each crate that is proved, to standard error; the rest is read where nobody can be told.
 a_line_a_crate() {
-    sed -un 's/^rt: //p' >&2 2>/dev/null || cat >/dev/null
+    sed -un -e '/^rt: running /d' -e 's/^rt: chose --jobs .* for /proving /p' -e 's/^rt: //p' >&2 2>/dev/null || cat >/dev/null
 }
 
-# Proves and builds a program.
+# Proves and builds a program. rt runs it too, on no input, and ends with its status, which tells nothing of the proof: that it runs one does. By its bytes
+# alone it goes on, so that a program that cannot be run has to go.
 build() { # NAME WHY
     log=target/$1.log
     if ! mkdir -p "$root/target" 2>/dev/null || [ ! -w "$root/target" ]; then
         give_up "$2, and could not be built: this user may not write to $root/target"
     fi
-    say "$2: proving and building it, about 3 minutes on two processors from nothing, less where little changed; $log has all that rt says"
-    rt version >"$root/target/$1.begun"
-    forget_lost "$1"
-    status=$(cd "$root" && { { rt check "$1" </dev/null 2>&1; echo $? >&4; } | tee "$log" | a_line_a_crate; } 4>&1)
-    if [ "$status" != 0 ] || ! mv "$root/target/$1.begun" "$root/target/$1.built"; then
+    say "$2: proving and building it, half an hour or more from nothing, minutes where little changed; $log has all that rt says"
+    note "$1" >"$root/target/$1.begun"
+    is_linked "$1" || rm -f "$root/crates/$1/out/$1"
+    (cd "$root/crates/$1" && rt run </dev/null 2>&1) | tee "$root/$log" | a_line_a_crate
+    if ! grep -q "^rt: running out/$1;" "$root/$log" || ! is_linked "$1" || ! mv "$root/target/$1.begun" "$root/target/$1.built"; then
         give_up "$1 could not be proved and built; $log says why"
     fi
 }
@@ -160,7 +168,7 @@ alone() { # FUNCTION WORD..
     ) 9<"$root/crates"
 }
 
-# Sees to it that target/bin/NAME is what the crates say.
+# Sees to it that crates/NAME/out/NAME is what the crates say.
 ready() { # NAME
     [ -n "$(out_of_date "$1")" ] || return 0
     need_rt

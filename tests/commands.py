@@ -185,9 +185,11 @@ def notices_failed_showbounds(tree):
     for what, text in (("the self-test failed", ":"), ("no report", "echo tables"), ("an empty line", "echo"), ("a crash", "echo table 1; exit 1"), ("a signal", "echo refused 1; kill -9 $$")):
         tree.set_program("showbounds", text)
         tree.run("show")
+        before = len(tree.told("rt"))
         ran = tree.run("show")
         need_ran(what, ran, 3, b"")
         need(ran.lines()[-1].startswith("show: showbounds "), "%s: not the line" % what, ran)
+        need(len(tree.told("rt")) == before, "%s: what is built is built again" % what, ran)
 
 
 # Files that cannot be read, of which the program warns.
@@ -243,14 +245,14 @@ def shows_without_warnings(tree):
 def builds_with_few_lines(tree):
     put(tree.work)
     ran = tree.run("show")
-    need_ran("the first time", ran, 0, W_PRINTED, lines=5)
+    need_ran("the first time", ran, 0, W_PRINTED, lines=4)
     said = ran.lines()
     need(said[0].startswith("show: showbounds is not built: ") and "minutes" in said[0], "the first line does not say what is done and how long it takes", ran)
-    need(said[1:4] == ["%s proved (0 s)" % crate for crate in ("low", "high", "showbounds")], "not a line for each crate", ran)
+    need(said[1:] == ["proving " + crate for crate in ("low", "high", "showbounds")], "not a line for each crate", ran)
     log = tree.lines_of(tree.root / "target/showbounds.log")
-    need(len(log) == 304 and log[-1] == "rt: ok, 3 crates proved", "the log does not have all that rt said")
+    need(len(log) == 305 and log[303].startswith("rt: running out/showbounds;"), "the log does not have all that rt said")
     need_ran("the second time", tree.run("show"), 0, W_PRINTED, lines=0)
-    need(tree.told("rt") == ["check showbounds"], "rt was called again")
+    need(tree.told("rt") == ["run in showbounds"], "rt was called again")
     need_ran("standard error lost while building", tree.run("desk", by=["sh", "-c", 'exec "$0" "$@" 2>/dev/full'], given=b"a call\n"), 0, b"a call\n")
 
 
@@ -267,12 +269,16 @@ def changes(tree):
     yield "a proof more", lambda: standin.write(crates / "low/proofs/More.antt", "more\n"), True
     yield "a proof less", (crates / "low/proofs/More.antt").unlink, True
     yield "a folder more", lambda: standin.write(crates / "low/specs/Lib.antt", "more\n"), True
+    yield "a folder less", lambda: shutil.rmtree(crates / "low/specs"), True
+    yield "the proof of a function named out", lambda: standin.write(crates / "low/proofs/out/Answers.antt", "more\n"), True
     yield "crates.txt", lambda: standin.write(tree.root / "crates.txt", standin.CRATES + "\n"), True
     yield "another kit", lambda: tree.tell("kit", "kit two\n"), True
-    yield "no program", (target / "bin/showbounds").unlink, True
-    yield "a program that cannot be run", lambda: (target / "bin/showbounds").chmod(0o644), True
+    yield "no program", (crates / "showbounds/out/showbounds").unlink, True
+    yield "a program that cannot be run", lambda: (crates / "showbounds/out/showbounds").chmod(0o644), True
     yield "no note of the build", (target / "showbounds.built").unlink, True
     yield "no target", lambda: shutil.rmtree(target), True
+    yield "nothing that rt made", lambda: [shutil.rmtree(crates / name / "out") for name in ("low", "showbounds")], True
+    yield "what rt makes of a crate, for another", lambda: standin.write(crates / "low/out/more", "more\n"), False
     yield "a must-fail edit", lambda: standin.write(crates / "low/must-fail/wrong.edit", "edited\n"), False
     yield "a crate that it does not need", lambda: standin.write(crates / "other/src/lib.rt", "edited\n"), False
     yield "the program of another", lambda: tree.set_program("desk", "exec tac"), False
@@ -295,12 +301,12 @@ def builds_what_changed(tree):
 def builds_what_is_lost(tree):
     put(tree.work)
     tree.run("show")
-    (tree.root / "target/bin/showbounds").unlink()
-    shutil.rmtree(tree.root / "target/rlib/low.rlib")
+    (tree.root / "crates/showbounds/out/showbounds").unlink()
+    (tree.root / "crates/low/out/made").unlink()
     ran = tree.run("show")
     need_ran("a library and the program lost", ran, 0, W_PRINTED)
-    need((tree.root / "target/rlib/low.rlib").exists(), "the lost library is not built again", ran)
-    need("high proved (unchanged since it was last proved)" in ran.lines(), "what was not lost is proved again", ran)
+    need((tree.root / "crates/low/out/made").exists(), "the lost library is not built again", ran)
+    need(ran.lines()[1:] == ["proving low", "proving showbounds"], "what was not lost is proved again", ran)
 
 
 def builds_again_after_edit_beside(tree):
@@ -320,7 +326,7 @@ def tells_failed_build(tree):
     for _ in range(2):
         ran = tree.run("show")
         need_ran("what is not proved", ran, 3, b"")
-        need("high NOT PROVED (exit 1, 0 s)" in ran.lines() and "target/showbounds.log" in ran.lines()[-1], "a failed build: not its lines", ran)
+        need("the library high did not build, so nothing above it was checked" in ran.lines() and "target/showbounds.log" in ran.lines()[-1], "a failed build: not its lines", ran)
     standin.write(tree.root / "crates/high/src/lib.rt", right)
     need_ran("mended", tree.run("show"), 0, W_PRINTED)
     (tree.tools / "rt").unlink()
@@ -355,7 +361,7 @@ def builds_once_for_two(tree):
 def desk_hands_through(tree):
     bytes_of_all_kinds = bytes(range(256)) * 300
     ran = tree.run("desk", given=bytes_of_all_kinds)
-    need_ran("input while building", ran, 0, bytes_of_all_kinds, lines=5)
+    need_ran("input while building", ran, 0, bytes_of_all_kinds, lines=4)
     need_ran("without a last newline", tree.run("desk", given=b"a\nb"), 0, b"a\nb", lines=0)
     need_ran("no input", tree.run("desk"), 0, b"", lines=0)
     tree.set_program("desk", "pwd; cat \"$1\" 2>/dev/null || echo no words")
@@ -496,19 +502,33 @@ def true_desk(tree):
 
 def test_tells_what_failed(tree):
     last = b"7 passed, 0 failed\n"
+    standin.write(tree.root / "target/mine", "kept\n")
     ran = tree.run("test")
     need_ran("all passes", ran, 0, lines=0)
-    need(ran.out.endswith(b"the tests ran\n" + last) and b"rt: low proved (0 s)\n" in ran.out, "all passes: not its lines", ran)
+    need(ran.out.endswith(b"the tests ran\n" + last) and b"rt: low proved\n" in ran.out, "all passes: not its lines", ran)
+    need(tree.told("rt") == ["ci in " + tree.root.name], "the gate is not rt ci of all crates alone", ran)
+    need((tree.root / "target/mine").exists(), "what lies in target is gone")
     put(tree.work)
     need_ran("show after the test", tree.run("show"), 0, W_PRINTED, lines=0)
     need_ran("desk after the test", tree.run("desk"), 0, b"", lines=0)
-    for what, end in (("fmt-fails", b""), ("ci-fails", b"6 passed, 1 failed\n"), ("tests-fail", b"the tests ran\n")):
+    for what, end in (("layout", b"0 passed, 4 failed\n"), ("ci-fails", b"6 passed, 1 failed\n"), ("tests-fail", b"the tests ran\n")):
         tree.tell(what)
         ran = tree.run("test", settings={"CDPATH": str(tree.folder)})
         need_ran(what, ran, 1)
         need(ran.out.endswith(end) and last not in ran.out, "%s: not its last line" % what, ran)
         (tree.state / what).unlink()
     need(not list(tree.room.iterdir()), "a temporary folder is left")
+
+
+def test_refuses_bad_edits(tree):
+    """Edits that cannot be tried: rt ci counts them, and passes."""
+    for bad, status in ((", 1 bad", 1), (", 20 bad", 1), (", 3 of them only by a limit, 4 bad", 1), (", 3 of them only by a limit", 0), (", 0 bad", 0)):
+        tree.tell("bad", bad)
+        ran = tree.run("test")
+        need_ran("must-fail edits: 12 refused%s" % bad, ran, status, lines=status)
+        need((b"the tests ran\n7 passed, 0 failed\n" in ran.out) == (status == 0), "must-fail edits: 12 refused%s: not its last line" % bad, ran)
+    tree.tell("untold")
+    need_ran("rt does not count the edits", tree.run("test"), 1, lines=1)
 
 
 def machines():
@@ -563,7 +583,7 @@ def show_needs_no_compiler(tree):
 CHECKS = [shows_examples, refuses_wrong_use, refuses_shut_folder, checks_folder_named, found_through_links, tells_use_and_version, tells_commit, notices_lost_output,
           notices_failed_showbounds, warns_of_unreadable, shows_without_warnings, builds_with_few_lines, builds_what_changed, builds_what_is_lost,
           builds_again_after_edit_beside, tells_failed_build, tells_shut_target, builds_once_for_two, desk_hands_through, desk_answers_at_once, desk_tells_how_it_ended,
-          desk_needs_its_ends, desk_ends_by_signal, desk_ends_with_its_host, desk_goes_on_without_warnings, test_tells_what_failed, test_installs_what_is_missing, show_needs_no_compiler]
+          desk_needs_its_ends, desk_ends_by_signal, desk_ends_with_its_host, desk_goes_on_without_warnings, test_tells_what_failed, test_refuses_bad_edits, test_installs_what_is_missing, show_needs_no_compiler]
 
 
 def first_fault(scripts, programs):

@@ -1,4 +1,4 @@
-"""Counts the definitions, by crate: those that a reader has to believe, and those of specs/Contracts.antt, which serve the contracts of the code alone.
+"""Counts the definitions, by crate: those that a reader has to believe, and those of specs/Clauses.antt, which serve the contracts of the code alone.
 
 Of each file given, such as history/specs/Mission.antt, it counts what the file reaches by its imports, and so all that its statements rest on. Lib.antt, which
 only lists a crate's files, is not counted.
@@ -8,7 +8,7 @@ import sys
 from pathlib import Path
 
 CRATES = Path(__file__).resolve().parent.parent / "crates"
-IMPORT = re.compile(r"^use Rattle·(\w+)(?:·specs)?\.specs\.(?!declared)(\w+)", re.M)
+IMPORT = re.compile(r"^use Rattle\.(?!std\.)(\w+)\.specs\.(?!declared)(\w+)", re.M)
 
 
 def counted(path):
@@ -37,9 +37,9 @@ def main():
     files = [path for path in sorted(CRATES.glob("*/specs/*.antt")) if path.stem != "Lib"]
     for path in files:
         show(str(path.relative_to(CRATES)), [path])
-    show("to believe", [path for path in files if path.stem != "Contracts"])
+    show("to believe", [path for path in files if path.stem != "Clauses"])
     show("of these, tables of edges", [path for path in files if path.stem == "Edges"])
-    show("for the contracts of the code alone", [path for path in files if path.stem == "Contracts"])
+    show("for the contracts of the code alone", [path for path in files if path.stem == "Clauses"])
     for name in sys.argv[1:]:
         show("what %s rests on" % name, reached(CRATES / name))
 

@@ -1,7 +1,7 @@
 """Holds every name that the documents give in backticks to the tree: it exists, and it stands in the file that is named beside it.
 
-A word is checked by its form: a path, a must-fail edit, a path of code (`a::b`), a theorem or a statement's field (with hyphens), code (with underscores, or capitals alone), a
-definition or type (with a capital inside or first). A word of no such form, such as a value or a plain word, is checked where the document says which file or
+A word is checked by its form: a path, a must-fail edit, a path of code (`a::b`), a definition, a theorem, a statement's field or code (with underscores), a constant (capitals alone), a
+type (with a capital first), a name of an older spelling (with hyphens, or a capital inside). A word of no such form, such as a value or a plain word, is checked where the document says which file or
 crate it stands in: `name` (`file`), `name` of `file`, (`name`, `file`), a list after a folder, a column "stands in" or "its calls". Of a command line only
 its paths are checked. What describes the past (CHANGELOG.md, docs/changes/) is not checked: names there may have gone. The table of crates has each crate
 of crates.txt, in its order, every rule that docs/RULES.md names has one line there, and docs/READING.md lists every file of definitions to believe.
@@ -11,10 +11,10 @@ import sys
 from pathlib import Path
 
 ROOT = Path(__file__).resolve().parent.parent
-LISTED = [line.partition(":")[::2] for line in (ROOT / "crates.txt").read_text(encoding="utf-8").splitlines() if not line.startswith("#")]
+LISTED = [(line.split(":")[0].split()[0], line.partition(":")[2]) for line in (ROOT / "crates.txt").read_text(encoding="utf-8").splitlines() if not line.startswith("#")]
 CRATES = {name: ROOT / "crates" / name for name, _ in LISTED}
 KIT = {crate for _, needed in LISTED for crate in needed.split()} - set(CRATES)  # crates of the kit that ours need
-OUTSIDE = ("target/", "shared/")  # made by building, and handed out beside the repository
+OUTSIDE = re.compile(r"target/|crates/\w+/out/|shared/")  # made by building, and handed out beside the repository
 PARTS = ("specs", "proofs", "src", "must-fail", "data")  # what a crate's folder has
 JOINTS = (",", "and", ", and")  # between names of one list
 
@@ -26,12 +26,13 @@ PLACEHOLDER = re.compile(r"\b(NAME|LABEL|MODULE|FUNCTION)\b")  # for any name
 EDIT = re.compile(r"([a-z]+)/([a-z0-9]+(_[a-z0-9]+)+)")
 CODE_PATH = re.compile(r"\w+(::\w+)+")
 THEOREM = re.compile(r"[a-z][a-z0-9]*(-[a-z0-9]+)+")
-CODE = re.compile(r"[a-z][a-z0-9]*(_[a-z0-9]+)+|[A-Z][A-Z0-9_]+")
+SPELT = re.compile(r"[a-z][a-z0-9]*(_[a-z0-9]+)+")
+CONSTANT = re.compile(r"[A-Z][A-Z0-9_]+")
 DEFINITION = re.compile(r"[a-z][a-z0-9]*[A-Z]\w*|[A-Z]\w*[a-z]\w*")
 NAME = re.compile(r"[\w-]+")
 RULE = re.compile(r"\b[A-Z]\d+\b")
 
-STATED = re.compile(r"^ *(?:abbrev |unfoldable )?(?:pub )?(?:record |data )?([^\W\d][\w-]*)(?: [({].*)? :", re.M)
+STATED = re.compile(r"^ *(?:(?:pub|abbrev|unfoldable|opaque|record|data) )*([^\W\d][\w'-]*)(?: [({].*)? :", re.M)
 DECLARED = re.compile(r"\b(?:fn|struct|enum|const|mod|type) (\w+)|^ +([A-Z]\w*)(?:,| \{|\(.*\),)$", re.M)
 
 
@@ -131,7 +132,7 @@ def in_code(crate, segments):
 
 def path_missing(block, word):
     """Of a path, and so of each form below: what is wrong with it, or None."""
-    return None if word.startswith(OUTSIDE) or found(block, word) else "no such file or folder"
+    return None if OUTSIDE.match(word) or found(block, word) else "no such file or folder"
 
 
 def edit_missing(block, word):
@@ -161,7 +162,9 @@ def missing(block, word):
         return code_path_missing(block, word)
     if THEOREM.fullmatch(word):
         return None if anywhere("proofs", word) or anywhere("specs", word) else "no such theorem, nor a field of a statement"
-    if CODE.fullmatch(word):
+    if SPELT.fullmatch(word):
+        return None if any(anywhere(part, word) for part in ("specs", "proofs", "src")) else "no such definition or theorem, nor in the code"
+    if CONSTANT.fullmatch(word):
         return None if anywhere("src", word) else "not in the code"
     return definition_missing(block, word) if DEFINITION.fullmatch(word) else None
 
@@ -274,7 +277,7 @@ def unlisted(text):
     """The files of definitions that READING's list of what has to be believed does not name: in one item, a word for the crate and one for the file."""
     section = text.split("## What has to be believed", 1)[1].split("\n## ", 1)[0]
     items = [set(re.findall(r"[A-Za-z]+", " ".join(item.split("`")[1::2]))) for item in re.split(r"\n(?=\d+\. )", section)]
-    believed = [path for path in DEFINED if path.parent.name == "specs" and path.stem not in ("Lib", "Contracts")]
+    believed = [path for path in DEFINED if path.parent.name == "specs" and path.stem not in ("Lib", "Clauses")]
     return ["docs/READING.md does not list %s" % path.relative_to(ROOT) for path in believed
             if not any({path.parent.parent.name, path.stem} <= item for item in items)]
 

@@ -1,9 +1,9 @@
 """Shows why the prover refuses the wrong programs that document 01 names, and wrong desks: python3 tests/mustfail.py [WORD..]
 
 For each row of the table below it tries the must-fail edit and its harmless twin, which writes something of the same meaning into
-the same lines, on a copy of the crates. It prints the first error for the edit and whether the twin is accepted, as it must be:
+the same lines, on a copy of the crates. It prints the start of the first error for the edit, as rt tells it, and whether the twin is accepted, as it must be:
 then the edit is refused for what it says, and not because its lines may not be touched. Words choose rows: a part of a label or of
-what the row stands for. The whole table takes some minutes; it is no part of ./test, which only asks that each edit is refused.
+what the row stands for. It takes long where little of the crates is proved yet; it is no part of ./test, which only asks that each edit is refused.
 """
 import os
 import re
@@ -26,8 +26,8 @@ class Row(NamedTuple):
 
 
 LATER_BY_NOTHING = (  # the twin of a tail for n and some steps more
-    "AtLeastTail n c r = (n + 0) * stepUnit * weightUnit ^ n ≤ (n + 0) * stepUnit * c + r * weightUnit ^ n",
-    "    le-of-mul-le-mul-left {k = (n + 0) * 2 ^ 8} (go (65536 ^ n) tail) (omega arith)",
+    "AtLeastTail n c r = (n + 0) * step_unit * weight_unit ^ n ≤ (n + 0) * step_unit * c + r * weight_unit ^ n",
+    "    le_of_mul-le-mul_left {k = (n + 0) * 2 ^ 8} (go (65536 ^ n) tail) (omega arith)",
     "    go : (e : ℕ) → (n + 0) * 2 ^ 8 * e ≤ (n + 0) * 2 ^ 8 * c + r * e → (n + 0) * 2 ^ 8 * (a * e) ≤ (n + 0) * 2 ^ 8 * ((a + d) * c)",
 )
 
@@ -39,22 +39,22 @@ TABLE = [
     Row("takes no delivery", "filing/takes_no_delivery", ("let found = certificate::check(&bytes[..length], file); found",)),
     Row("takes no delivery", "delivery/takes_no_delivery", ("    delivery.len() == 8 * records_in(n, shape)",)),
     Row("takes no delivery, by definition", "verdict/takes_no_delivery",
-        ("shapedTests b s g (Of h) d = [] ++ (layoutTests s g h d ++ numberTests b s g h d)",)),
+        ("shaped_tests b s g (Of h) d = [] ++ (layout_tests s g h d ++ number_tests b s g h d)",)),
     Row("takes every delivery", "filing/takes_every_delivery", ("let found = certificate::check(&bytes[..length], file); found",)),
     Row("takes every delivery of a right layout", "inequalities/takes_every_number",
         ("(y > upper) | (strict & (live & (y >= upper)))", "    if need > y {", "    if y > have {",
          "        if (!is_live(mark(live, row, q))) & (value_at(block, e) != 0) {", "        if (value_at(uppers, e)) < value_at(lowers, e) {")),
     Row("takes every delivery, by definition", "verdict/takes_every_delivery",
-        ("shapedTests b s g (Of h) d = [] ++ (layoutTests s g h d ++ numberTests b s g h d)",)),
+        ("shaped_tests b s g (Of h) d = [] ++ (layout_tests s g h d ++ number_tests b s g h d)",)),
     Row("files nothing while reporting success", "held/files_nothing", ("length: file.len(),",)),
     Row("files nothing while reporting success: the numbers are the former delivery's", "register/keeps_the_former_numbers",
         ("numbers: numbers,",)),
     # with the call that tells whether a delivery is held, and what comes with it in the proof
     Row("checks the first delivery after a model and waves later ones through", "register/waves_later_deliveries_through",
-        ("let another = held::is_held(delivery); let former = self.numbers;", "if is_refused(found) & true {", "start c = c .before .before",
+        ("let another = held::is_held(delivery); let former = self.numbers;", "if is_refused(found) & true {", "start c = c.before.before.before.before.before.before.before",
          "(tie.spec (λ c κs. search needs)")),
     Row("marks a refused delivery, in definition and code", "register/refused_delivery_marked_known",
-        ("turnedAway r o = record { outcome = o; register = r; mark = Absent }", "use Rattle·calls.specs.declared.Mark.the-variants.{Known, Absent}",
+        ("use Rattle.calls.specs.declared.Mark.TheVariants.{Known, Absent}", "turned_away r o = record { outcome = o; register = r; mark = Absent }",
          "        mark: (Mark::Absent),")),
     Row("prints an invented margin", "held/invented_margin",
         ("let found = margin_with_lowers(model, delivery, n, shape); found",)),
@@ -66,204 +66,203 @@ TABLE = [
     Row("takes a lower without the strict upper", "inequalities/equal_upper_taken_beside_lowers",
         ("(y > upper) | (strict & (live & (y >= upper)))",)),
     Row("takes a lower without the strict upper, by definition", "ppda/strict_upper_left_out",
-        ("  pub strict : isLive (alive m s g p z q) ≡ true → f m s (2 ^ 20) u p z q < u p z q * sumUnit",)),
+        ("  pub strict : is_live (alive m s g p z q) ≡ true → f m s (2 ^ 20) u p z q < u p z q * sum_unit",)),
     # a rule's product: its weight times what it leads to, which for two pushed symbols is the sum over t; 2^36 of its unit are a 1,048,576th
     Row("rounds each product, its chance included, down to 1,048,576ths before adding", "equations/products_rounded",
         ("    weight * through >> 0 << 0",)),
     Row("leaves out the middle state t", "equations/middle_state_left_out",
         ("        sum = sum + value(block, n, r, y, t) * value(block, n, t, x, q);",)),
     Row("leaves out the middle state t in the mean steps", "equations/middle_state_left_out_of_means",
-        ("(value(uppers, n, r, y, t)) * mean(means, n, t, x)",)),
+        ("sum += (value(uppers, n, r, y, t)) * mean(means, n, t, x);",)),
     Row("leaves out the middle state t, by definition", "ppda/middle_state_left_out",
-        ("through s d v r (two y x) q = sumTo (λ m. v r y m * v m x q) s",)),
+        ("through s d v r (two y x) q = sum_to (λ m. v r y m * v m x q) s",)),
     # `rest` starts with the lowers; `check-requires` asks that the block handed on is in range, and `returns-2` that it is the uppers
     Row("weighs r(t, X) by the lowers", "certificate/mean_steps_by_the_lowers",
         ("let weighs = uppers; return means::check(model, starts, weighs, block, n, v + v);",)),
     Row("weighs r(t, X) by the lowers, by definition", "ppda/mean_steps_by_the_lowers",
         ("  pub means : Means m s g (λ p z q. u p z q) r",)),
-    Row("takes k rounds of f from zero for k steps", "ppda/k_steps_for_k_rounds", ("stepsOf k = (1 + 1) ^ k - 1",)),
-    Row("promises the lower of k rounds for more steps", "ppda/lower_promised_later", ("stepsOf k = (1 + 1) ^ k - 1",)),
+    Row("takes k rounds of f from zero for k steps", "ppda/k_steps_for_k_rounds", ("steps_of k = (1 + 1) ^ k - 1",)),
+    Row("promises the lower of k rounds for more steps", "ppda/lower_promised_later", ("steps_of k = (1 + 1) ^ k - 1",)),
     Row("caps uppers at 1", "delivery/uppers_capped_at_one", ("Block::Uppers => 2097152,",)),
     # whatever the code does: an upper of W, 1,179,648, is above the cap
-    Row("caps uppers at 1, by definition", "ppda/uppers_capped_at_one", ("mostChance = 2 ^ 21",)),
+    Row("caps uppers at 1, by definition", "ppda/uppers_capped_at_one", ("most_chance = 2 ^ 21",)),
 
-    Row("works the second symbol of a pair from the exit, not from the state between", "shortruns/pair_without_middle_state", ("n.row((t), x)",)),
+    Row("works the second symbol of a pair from the exit, not from the state between", "shortruns/pair_without_middle_state", ("* chance(model, starts, n, steps - j, n.row((t), x), q);",)),
     Row("leaves a pair as many steps as the rule that pushes it had", "shortruns/one_step_too_many_for_the_pair",
-        ("chance_of_pair(model, starts, n, (left), i, q)",)),
+        ("sum += k * chance_of_pair(model, starts, n, (left), i, q);",)),
     Row("takes the first symbol's chance within j steps for that of step j alone", "shortruns/within_taken_for_exactly",
         ("sum += (within - 65536 * before)",)),
     Row("gives a chance of a short run over one power of 65,536 more", "shortruns/chance_over_one_power_more", ("let whole = certain((left));",)),
-    Row("counts a short run that returns through any exit", "shortruns/any_exit_counted", ("returned((r), q, whole)",)),
+    Row("counts a short run that returns through any exit", "shortruns/any_exit_counted", ("sum += k * returned((r), q, whole);",)),
     Row("counts a run that returns through any exit, by definition", "ppda/any_exit_counted",
-        ("returnedIn q (some (at p [])) = let k = q in bit (eqb p k)",)),
+        ("returned_in q (some (at p [])) = let k = q in bit (eqb p k)",)),
     Row("lends the lowers for the uppers", "register/lists_have_lowers_for_uppers", ("let uppers = (self.numbers.uppers);",)),
-    Row("looks a short run up in the row of the exit", "questions/short_run_of_another_row", ("n.row((p), z)",)),
+    Row("looks a short run up in the row of the exit", "questions/short_run_of_another_row", ("chance(model, starts, n, steps, n.row((p), z), q)",)),
     Row("answers for four steps", "shortruns/four_steps_answered", ("pub const MOST_STEPS: usize = (3);",)),
     Row("promises nothing of an upper beside a short run", "history/short_promised_weaker",
-        ("AtMostUpper n c (u)", "rw (same, ← one) (holds (n))")),
-    Row("answers for four steps, by definition", "history/four_steps_by_definition", ("toThree k r = cond (leb k 3) r (refusal 45)",)),
+        ("(n p z q c u : ℕ) → reply_to cs (within n p z q) ≡ value c → reply_to cs (upper p z q) ≡ value u → AtMostUpper n c (u)", "rw (same, ← one) (holds (n))")),
+    Row("answers for four steps, by definition", "history/four_steps_by_definition", ("to_three k r = cond (leb k 3) r (refusal 45)",)),
     Row("refuses too many steps before the place, by definition", "history/steps_refused_before_the_place",
-        ("ofModel (x .model) (λ b. atEntry b p z q (cond (leb n 3) (value (chance (rulesOf b) n p z q)) (refusal 45)))",)),
+        ("plain_reply x (within n p z q) = of_model x.model (λ b. at_entry b p z q (cond (leb n 3) (value (chance (rules_of b) n p z q)) (refusal 45)))",)),
     Row("answers for three steps whatever is asked, by definition", "history/three_steps_whatever_is_asked",
-        ("toThree n (value (let k = n in chance (rulesOf b) k p z q))",)),
+        ("plain_reply x (within n p z q) = of_model x.model (λ b. at_entry b p z q (to_three n (value (let k = n in chance (rules_of b) k p z q))))",)),
     Row("promises a short run's chance of another exit", "history/short_chance_promised_of_another_exit",
-        ("(let k = q in c ≡ chance (rulesOf b) n p z k) × (n ≤ 3)",)),
+        ("(n p z q c : ℕ) → reply_to cs (within n p z q) ≡ value c → (b : List ℕ) × Holds cs b × (let k = q in c ≡ chance (rules_of b) n p z k) × (n ≤ 3)",)),
     Row("does not list 45 for short runs", "history/too_many_steps_not_listed", ("listed (within n p z q) = 40 ∷ (44 ∷ (45 ∷ []))",)),
 
-    Row("a move up pushes one symbol, by definition", "onecounter/up_pushes_one_symbol", ("pushFor up = let pushed = two 0 0 in pushed",)),
+    Row("a move up pushes one symbol, by definition", "onecounter/up_pushes_one_symbol", ("push_for up = let pushed = two 0 0 in pushed",)),
     # So does this one with the number that is stored: `shift(file, i) / 1` is refused too.
     Row("a record pushes half of d symbols", "counter/half_of_d_pushed", ("    out[at + PUSHES_BYTE] = (shift(file, i)) as u8;",)),
     Row("down and up are exchanged, by definition", "onecounter/down_and_up_exchanged",
-        ("shifted down n = let c = n in c", "shifted up n = let c = n in suc (suc c)", "pushFor down = let pushed = nothing in pushed", "pushFor up = let pushed = two 0 0 in pushed")),
-    Row("down and up are exchanged, by definition", "counter/down_and_up_exchanged", ("shiftOf zero = let d = down in d", "shiftOf (suc (suc d)) = let e = up in e")),
-    Row("the count goes on below zero, by definition", "onecounter/goes_on_below_zero", ("afterMoves u zero (e ∷ l) = cond (eqb 0 1) (some (stands u zero)) none",)),
+        ("shifted down n = let c = n in c", "shifted up n = let c = n in suc (suc c)", "push_for down = let pushed = nothing in pushed", "push_for up = let pushed = two 0 0 in pushed")),
+    Row("down and up are exchanged, by definition", "counter/down_and_up_exchanged", ("shift_of zero = let d = down in d", "shift_of (suc (suc d)) = let e = up in e")),
+    Row("the count goes on below zero, by definition", "onecounter/goes_on_below_zero", ("after_moves u zero (e ∷ l) = cond (eqb 0 1) (some (stands u zero)) none",)),
     Row("records ascend by (v, u, d)", "counter/order_by_v_first", ("    let v = later(file, i, (TO_BYTE), d);", "    later(file, i, (FROM_BYTE), v)")),
     Row("records ascend by (v, u, d), by definition", "counter/order_by_v_first_by_definition",
-        ("moveKey c i = fromAt c i ∷ (toAt c i ∷ (shiftAt c i ∷ []))", "    let v = later(file, i, (TO_BYTE), d);", "    later(file, i, (FROM_BYTE), v)")),
+        ("move_key c i = from_at c i ∷ (to_at c i ∷ (shift_at c i ∷ []))", "    let v = later(file, i, (TO_BYTE), d);", "    later(file, i, (FROM_BYTE), v)")),
     Row("a state that is named as v alone is not summed, by definition", "counter/state_named_as_v_not_summed",
-        ("stateIn c i = let u = fromAt c i in max u (toAt c i)", "        state = greater(state, greater(from(file, i), (to(file, i))));")),
+        ("state_in c i = let u = from_at c i in max u (to_at c i)", "        state = greater(state, greater(from(file, i), (to(file, i))));")),
     Row("a state's sum is tested before the records, by definition", "counter/sums_tested_before_records",
-        ("    ∷ (([] ++ each (movesIn c) (moveTests c)) ++ each (statesIn c) (stateTests c))",
-         "    let parts = passed-append (each (movesIn c) (moveTests c)) (each (statesIn c) (stateTests c)) .0 (h .1) in",
-         "(accepted-exactly (each (movesIn c) (moveTests c)) .1 (parts .0))",
-         "passed-each (statesIn c) (stateTests c) .0 (parts .1) in",
-         "      passed-append (each (movesIn c) (moveTests c)) (each (statesIn c) (stateTests c)) .1 (",
-         "        FIRST",
-         "        passed-each (statesIn c) (stateTests c) .1 (λ u l. sum-exactly c u .1 (state-sum-is c u ∙ file .machine .state-sum u l)),",
-         "        passed-each (movesIn c) (moveTests c) .1 (λ i l. move-exactly c i .1 (m .right i l, ascends-of-file c m i l)),")),
+        ("    ∷ (([] ++ each (moves_in c) (move_tests c)) ++ each (states_in c) (state_tests c))",
+         "let parts = (passed_append (each (moves_in c) (move_tests c)) (each (states_in c) (state_tests c))).0 h.1 in",
+         "let records = moves_right c (not-false _ h.0) ((accepted_exactly (each (moves_in c) (move_tests c))).1 parts.0) in",
+         "let sums = (passed_each (states_in c) (state_tests c)).0 parts.1 in",
+         "(passed_append (each (moves_in c) (move_tests c)) (each (states_in c) (state_tests c))).1 (",
+         "FIRST",
+         "(passed_each (states_in c) (state_tests c)).1 (λ u l. (sum_exactly c u).1 (state_sum_is c u ∙ file.machine.state_sum u l)),",
+         "(passed_each (moves_in c) (move_tests c)).1 (λ i l. (move_exactly c i).1 (m.right i l, ascends_of_file c m i l)),")),
     # This twin leaves the test of the byte as it is: `0 == zero`, of the same meaning, is refused in the same words, so that the edit shows less than the others.
     Row("the fourth byte is not tested", "counter/fourth_byte_not_tested", ("    let rest = (zero == 0) & ((0 < k) & (k <= 65536));",)),
     Row("the made model has its states exchanged, by definition", "onecounter/states_of_a_move_exchanged",
-        ("ruleFor e = (let u = e .from in rule u 0 (e .to) (pushFor (e .shift)) (e .weight))",)),
+        ("rule_for e = (let u = e.from in rule u 0 e.to (push_for e.shift) e.weight)",)),
     Row("the last byte of the weight is ignored, by definition", "counter/last_weight_byte_ignored",
-        ("use Prim.Native.Nat.{ℕ, suc, _+_, _*_, _/_, max}", "weightIn c i = wordAt c ((recordBytes * i) + weightByte)", "    words::word(file, RECORD_BYTES * i + WEIGHT_BYTE)")),
+        ("use Rattle.std.specs.Prelude.{ℕ, suc, ◌+◌, ◌*◌, ◌/◌, max, List, [], ◌∷◌, length, get_or}", "weight_in c i = word_at c ((record_bytes * i) + weight_byte)", "    words::word(file, RECORD_BYTES * i + WEIGHT_BYTE)")),
     Row("a counter file is judged where a model is held, and refused by 41 where none is", "counter/judged_where_a_model_is_held",
         ("    if register.has_model() & true {",)),
 
     Row("the plain pair holds the counter file for the model that it makes", "history/counter_file_held_as_the_model",
-        ("modelAfter (fileCounter c) t former = cond t (some (let f = c in counterModel f)) former",)),
+        ("model_after (file_counter c) t former = cond t (some (let f = c in counter_model f)) former",)),
     Row("a counter file is judged before 41", "history/counter_judged_before_the_register",
-        ("plainReply x (fileCounter c) = ifNone (x .model) (byVerdict (let f = c in counterVerdict f) accepted)",)),
-    Row("does not list 48 for counter files", "history/counter_sum_not_listed", ("listed (fileCounter c) = 41 ∷ (46 ∷ (47 ∷ (48 ∷ [])))",)),
+        ("plain_reply x (file_counter c) = if_none x.model (by_verdict (let f = c in counter_verdict f) accepted)",)),
+    Row("does not list 48 for counter files", "history/counter_sum_not_listed", ("listed (file_counter c) = 41 ∷ (46 ∷ (47 ∷ (48 ∷ [])))",)),
     Row("promises an upper of no passage", "history/passage_upper_promised_weaker",
-        ("value a → (n : ℕ) → AtMostUpper n (firstPassage (movesOf c) n u v) a", "passage-upper-shown cs c u v a at e n =",
-         "    passage-upper-of-file c (at .file) u v a (subst (λ m. UpperHolds (rulesOf m) u 0 v a) (one-model held (at .held)) holds) n")),
+        ("PassageUpperShown cs = (c : List ℕ) (u v a : ℕ) → HoldsCounter cs c → reply_to cs (upper u 0 v) ≡ value a → (n : ℕ) → AtMostUpper n (first_passage (moves_of c) n u v) a", "passage_upper_shown cs c u v a at e n =",
+         "    passage_upper_of_file c at.file u v a (subst (λ m. UpperHolds (rules_of m) u 0 v a) (one_model held at.held) holds) n")),
     Row("promises a lower of passage in another state", "history/passage_lower_promised_of_another_state",
-        ("(let e = v in PassageLower (movesOf c) u e l upper-answered margin-answered)",)),
+        ("pub holds : (let e = v in PassageLower (moves_of c) u e l upper_answered margin_answered)",)),
     Row("promises a mean of no moves", "history/passage_mean_promised_weaker",
-        ("value r → (n : ℕ) → Rattle·ppda.specs.Bounds.AtMostMean n (Rattle·onecounter.specs.Passage.meanMoves (movesOf c) n u) r",
-         "passage-mean-shown cs c u r at e n =",
-         "    passage-mean-of-file c (at .file) u r (subst (λ m. MeanHolds (rulesOf m) u 0 r) (one-model held (at .held)) holds) n")),
+        ("PassageMeanShown cs = (c : List ℕ) (u r : ℕ) → HoldsCounter cs c → reply_to cs (mean_steps u 0) ≡ value r → (n : ℕ) → Rattle.ppda.specs.Bounds.AtMostMean n (Rattle.onecounter.specs.Passage.mean_moves (moves_of c) n u) r",
+         "passage_mean_shown cs c u r at e n =",
+         "    passage_mean_of_file c at.file u r (subst (λ m. MeanHolds (rules_of m) u 0 r) (one_model held at.held) holds) n")),
     Row("promises a short passage in another state", "history/passage_short_promised_of_another_state",
-        ("(let e = v in x ≡ firstPassage (movesOf c) n u e)",)),
+        ("(c : List ℕ) (n u v x : ℕ) → HoldsCounter cs c → reply_to cs (within n u 0 v) ≡ value x → (let e = v in x ≡ first_passage (moves_of c) n u e)",)),
     # The refusal is a missing field, and a harmless field more is refused likewise; the twin adds none.
     Row("promises what is shown of counter files that nobody can hold", "history/holds_counter_that_nobody_has",
-        ("-- After an accepted counter file the model that it makes is held, and that is a model file.", "→ (HoldsCounter (fileCounter c ∷ cs) c) × ModelFile (counterModel c)",
-         "    ((record { file = file; held = rw e }), made-right c file)")),
+        ("-- After an accepted counter file the model that it makes is held, and that is a model file.", "CounterHeld cs = (c : List ℕ) → reply_to cs (file_counter c) ≡ accepted → (HoldsCounter (file_counter c ∷ cs) c) × ModelFile (counter_model c)",
+         "    ((record { file = file; held = rw e }), made_right c file)")),
     Row("the desk reads a counter file before the register's own reasons", "script/counter_file_read_before_own_reasons", ("Change::Counter => !model & true,",)),
 
-    Row("marks by the uppers alone", "filing/marks_by_the_uppers_alone", ("same(&lowers, &former_lowers, v)", "same(&means, &former_means, rows)")),
+    Row("marks by the uppers alone", "filing/marks_by_the_uppers_alone", ("& same(&lowers, &former_lowers, v)", "& same(&means, &former_means, rows)")),
     Row("marks by the uppers alone, by definition", "history/known_by_the_uppers_alone",
-        ("use Prim.Native.Nat.{ℕ, _*_}", "sameAs s g (Of h) (Of k) d e = sameShape h k && (let n = recordsIn s g h in allTo (sameRecord d e) n)")),
+        ("use Rattle.std.specs.Prelude.{ℕ, ◌*◌, Bool, false, cond, ◌&&◌, List, [], ◌∷◌, eqb, ltb, leb}", "same_as s g (Of h) (Of k) d e = same_shape h k && (let n = records_in s g h in all_to (same_record d e) n)")),
     Row("marks by the lowers for the uppers", "filing/marks_by_the_lowers", ("same(&uppers, &former_uppers, v)",)),
-    Row("compares no lowers", "filing/lowers_not_compared", ("same(&lowers, &former_lowers, v)",)),
-    Row("compares as many lowers as there are rows", "filing/lowers_compared_for_rows_alone", ("same(&lowers, &former_lowers, v)",)),
-    Row("compares no mean steps", "filing/means_not_compared", ("same(&means, &former_means, rows)",)),
+    Row("compares no lowers", "filing/lowers_not_compared", ("& same(&lowers, &former_lowers, v)",)),
+    Row("compares as many lowers as there are rows", "filing/lowers_compared_for_rows_alone", ("& same(&lowers, &former_lowers, v)",)),
+    Row("compares no mean steps", "filing/means_not_compared", ("& same(&means, &former_means, rows)",)),
     Row("compares no shapes", "held/shapes_not_compared", ("HeldDelivery::Of(former) => shape::same_shape(shape, former),",)),
     Row("compares no shapes, by definition", "history/known_whatever_the_shape",
-        ("sameAs s g (Of h) (Of k) d e = (let t = sameShape h k in t) && allTo (sameRecord d e) (recordsIn s g h)",)),
+        ("same_as s g (Of h) (Of k) d e = (let t = same_shape h k in t) && all_to (same_record d e) (records_in s g h)",)),
     Row("compares shapes by their lowers alone", "delivery/shapes_compared_by_lowers_alone",
         ("    (has_lowers(a) == has_lowers(b)) & (has_means(b) == has_means(a))",)),
     Row("promises of marks before the first call alone", "history/marks_promised_at_the_start_alone",
-        ("  pub known-held : KnownHeld (let xs = cs in xs)", "use mathlib.Core.List.{List, []}", "  known-held = known-held (let xs = cs in xs);")),
+        ("  pub known_held : KnownHeld (let xs = cs in xs)", "use mathlib.Core.List.{List, []}", "  known_held = known_held (let xs = cs in xs);")),
     Row("promises nothing of a delivery that is known", "history/known_promised_of_nothing",
-        ("(Bytes e → Bytes d → let x = d in e ≡ x)", "λ bytes bytes′. same-bytes _ _ d right bytes bytes′ .0 (by .same))")),
+        ("KnownHeld cs = (d : List ℕ) → reply_to cs (file_delivery d) ≡ known → (e : List ℕ) × HoldsDelivery cs e × (Bytes e → Bytes d → let x = d in e ≡ x)", "(by.former, by.held_delivery, λ bytes bytes'. (same_bytes _ _ d right bytes bytes').0 by.same)")),
 
     Row("weighs Y and X alike in a record's number", "model/top_and_under_weighed_alike",
         ("    KEY_BASE * ((((p * KEY_BASE + z) * KEY_BASE + q) * KEY_BASE + l) * KEY_BASE + y) + x",)),
     # These two change the table of a record's number too, so that the theorem is what refuses them.
     Row("weighs Y and X alike in a record's number, by definition", "model/top_and_under_weighed_alike_by_definition",
-        ("keyBases = keyBase ∷ keyBase ∷ keyBase ∷ keyBase ∷ keyBase ∷ 256 ∷ []",
+        ("key_bases = key_base ∷ key_base ∷ key_base ∷ key_base ∷ key_base ∷ 256 ∷ []",
          "    KEY_BASE * ((((p * KEY_BASE + z) * KEY_BASE + q) * KEY_BASE + l) * KEY_BASE + y) + x",
-         "pub number-read : keyNumber (key recordsFile 0) ≡ 256 ^ 5 + 5 * 256 ^ 4 + 3 * 256 ^ 3 + 2 * 256 ^ 2 + 9 * 256 + 7")),
+         "pub number_read : key_number (key records_file 0) ≡ 256 ^ 5 + 5 * 256 ^ 4 + 3 * 256 ^ 3 + 2 * 256 ^ 2 + 9 * 256 + 7")),
     Row("forms a record's number to the base 255", "model/base_255", ("pub const KEY_BASE: u64 = 0x100;",)),
     Row("forms a record's number to the base 255, by definition", "model/base_255_by_definition",
-        ("keyBase = (256)", "pub const KEY_BASE: u64 = 0x100;",
-         "pub number-read : keyNumber (key recordsFile 0) ≡ 256 ^ 5 + 5 * 256 ^ 4 + 3 * 256 ^ 3 + 2 * 256 ^ 2 + 9 * 256 + 7")),
+        ("key_base = (256)", "pub const KEY_BASE: u64 = 0x100;",
+         "pub number_read : key_number (key records_file 0) ≡ 256 ^ 5 + 5 * 256 ^ 4 + 3 * 256 ^ 3 + 2 * 256 ^ 2 + 9 * 256 + 7")),
     Row("takes equal numbers as ascending", "wellformed/equal_numbers_taken", ("    (before < number) | (i == 0)",)),
     Row("does not keep the number of the record before", "wellformed/number_before_not_kept", ("        let last = number; before = last;",)),
     Row("does not test X where nothing is pushed", "wellformed/unused_x_not_tested", ("        return (x == 0) & (y == 0);",)),
 
     Row("finds the live marks a round short", "live/marks_a_round_short", ("while left > 0 {",)),
     Row("finds the live marks rounds short, by definition", "ppda/too_few_rounds",
-        ("alive m s g = λ p z q. mark m s (entriesIn s g) p z q",)),
+        ("alive m s g = λ p z q. mark m s (entries_in s g) p z q",)),
     Row("marks every entry as live", "live/everything_live", ("a | b | 0",)),
     Row("names the block, or too many steps, before the place", "calls/last_test_before_place",
-        ("if !(inside) & true {", "refused((Reason::NotOfModel))", "if !last | false {", "refused((reason))")),
+        ("if !(inside) & true {", "return refused((Reason::NotOfModel));", "FIRST", "return refused((reason));", "if !last | false {")),
     Row("names the block where too many steps are asked for", "calls/own_reason_lost", ("return refused((reason));",)),
     Row("names one reason of a record for another", "wellformed/two_reasons_swapped",
-        ("refused((Reason::OutOfRange), i)", "refused((Reason::UnusedNotZero), i)")),
+        ("return refused((Reason::OutOfRange), i);", "FIRST", "return refused((Reason::UnusedNotZero), i);")),
 
     # Merges (request A.5).
     Row("merges by the larger upper", "merging/larger_upper_kept", ("let list = kept_of(Keep::Smaller, &held, &second, n.entries()); list",)),
     Row("merges by the smaller lower", "merging/smaller_lower_kept", ("let list = kept_of(Keep::Larger, &a, &b, n.entries()); list",)),
     # the twin exchanges the two deliveries in the definition, the code and their proofs; so does that of the larger mean by definition
     Row("merges by the smaller lower, by definition", "merging/smaller_lower_by_definition",
-        ("(keptTo Larger (entriesIn (statesOf b) (symbolsOf b)) (second .lowers) (former .lowers));",
-         "(keptTo Larger (entriesIn s g) (ifStanding (hasLowers k) (listedByExit s g (lowersOf s g d))) (former .lowers))",
-         "kept_of(Keep::Larger, &b, &a, n.entries())", "r ≡ keptTo Larger n b (former .lowers)",
-         "(keptTo Larger (entriesIn s g) (ifStanding y (padded (by k) (entriesIn s g))) (ifStanding x (padded (by l) (entriesIn s g))))",
-         "both-listed true true l k m same = kept-listed Larger k l m (λ p z q hp hz hq. let e = same refl p z q hp hz hq in omega (arith, e))",
-         "(keptTo Larger (entriesIn s g) (second .lowers) (former .lowers));")),
+        ("lowers = if_standing (has_lowers h && has_lowers k) (kept_to Larger (entries_in (states_of b) (symbols_of b)) second.lowers former.lowers);",
+         "(kept_to Larger (entries_in s g) (if_standing (has_lowers k) (listed_by_exit s g (lowers_of s g d))) former.lowers)",
+         "kept_of(Keep::Larger, &b, &a, n.entries())", "→ r ≡ kept_to Larger n b former.lowers → r ≡ lowers_merged s g h former k d",
+         "(kept_to Larger (entries_in s g) (if_standing y (padded (by k) (entries_in s g))) (if_standing x (padded (by l) (entries_in s g))))",
+         "both_listed true true l k m same = kept_listed Larger k l m (λ p z q hp hz hq. let e = same refl p z q hp hz hq in omega (arith, e))",
+         "lowers = if_standing (has_lowers h && has_lowers k) (kept_to Larger (entries_in s g) second.lowers former.lowers);")),
     Row("merges by the larger mean", "merging/larger_mean_kept", ("let list = kept_of(Keep::Smaller, &a, &b, n.rows()); list",)),
     Row("merges by the larger mean, by definition", "merging/larger_mean_by_definition",
-        ("meansTo n true true l k = keptTo Smaller n k l", "kept_of(Keep::Smaller, &b, &a, n.rows())", "r ≡ keptTo Smaller n b (former .means)",
-         "keptTo Smaller (rowsIn s g) (listedRows s g t) (listedRows s g r)",
-         "(λ e lt. ap₂ min (padded-at _ _ e lt few-rows) (padded-at _ _ e lt few-rows) ∙ omega arith)")),
+        ("means_to n true true l k = kept_to Smaller n k l", "kept_of(Keep::Smaller, &b, &a, n.rows())", "→ r ≡ kept_to Smaller n b former.means → r ≡ means_merged s g h former k d",
+         "rows_listed : (r t : RowVector) → kept_to Smaller (rows_in s g) (listed_rows s g t) (listed_rows s g r) ≡ listed_rows s g (smaller_rows r t)",
+         "padded_cong _ _ (rows_in s g) few_rows (λ e lt. ap₂ min (padded_at _ _ e lt few_rows) (padded_at _ _ e lt few_rows) ∙ omega arith)")),
     Row("keeps the mean steps of the second where both have any", "merging/mean_of_the_second_where_both_have_it",
         ("let list = kept_of(Keep::Smaller, &a, &b, n.rows()); list",)),
     Row("keeps the larger for the smaller", "merging/smaller_is_larger", ("Keep::Smaller => { if b < a { b } else { a } }",)),
     Row("has lowers where either delivery has them", "merging/lowers_where_either_has_them",
         ("!(!has_lowers(held) | !has_lowers(second))",)),
     Row("has lowers where either delivery has them, by definition", "delivery/lowers_where_either_has_them",
-        ("mergedShape h k = shapeWith (hasLowers k && hasLowers h) (hasMeans h || hasMeans k)",)),
+        ("merged_shape h k = shape_with (has_lowers k && has_lowers h) (has_means h || has_means k)",)),
     Row("has mean steps where both deliveries have them", "merging/means_where_both_have_them",
         ("!(!has_means(held) & !has_means(second))",)),
     Row("merges by the larger upper, by definition", "delivery/larger_upper_merged",
-        ("    (λ p z q. smaller (uppersOf s g e) (uppersOf s g d) p z q)",)),
+        ("    (λ p z q. smaller (uppers_of s g e) (uppers_of s g d) p z q)",)),
     Row("shows the margin of the first", "merging/margin_of_the_first", ("        margin: { let own = Numbers { uppers, lowers, means, margin }; own.margin },",)),
     Row("shows the margin of the first, by definition", "merging/margin_of_the_first_by_definition",
-        ("          (margin (rulesOf b) (statesOf b) (symbolsOf b) (entriesByExit (statesOf b) (symbolsOf b)"
-         " (keptTo Smaller (entriesIn (statesOf b) (symbolsOf b)) (former .uppers) (second .uppers)))) 0;",)),
+        ("          (margin (rules_of b) (states_of b) (symbols_of b) (entries_by_exit (states_of b) (symbols_of b) (kept_to Smaller (entries_in (states_of b) (symbols_of b)) former.uppers second.uppers))) 0;",)),
     Row("keeps the uppers of the second", "merging/second_uppers_kept", ("let list = kept_of(Keep::Smaller, &held, &second, n.entries()); list",)),
     Row("replaces the held delivery by the second", "register/second_held_after_a_merge",
         ("let joined = merged_shape(first, second); let shape = joined;", "let merged = merged_numbers(model, n, first, self.numbers, second, file);",
-         "tie.Need-merged-numbers-requires", "(numbers .merged-numbers .ensures)")),
+         "merged-numbers-requires : tie.Need-merged-numbers-requires", "first.shape-held.ensures second.shape-for.ensures shape.merged_shape_lem.ensures numbers.merged_numbers.ensures")),
     Row("replaces the held delivery by the second, by definition", "history/second_held_after_a_merge",
-        ("mergedWith (some b) (some e) d = cond false none (some (merged b e d))",)),
+        ("merged_with (some b) (some e) d = cond false none (some (merged b e d))",)),
     Row("keeps the held delivery and says that it merged", "register/merge_keeps_the_held_delivery",
-        ("let joined = merged_shape(first, second); let shape = joined;", "mark_by(n, delivery, self.numbers, joined, merged)", "numbers: merged,")),
+        ("let joined = merged_shape(first, second); let shape = joined;", "let mark = mark_by(n, delivery, self.numbers, joined, merged);", "numbers: merged,")),
     Row("keeps the held numbers under the merged shape", "register/merge_keeps_the_first_numbers", ("numbers: { let own = merged; own },",)),
     Row("tests 42 before 40", "filing/no_delivery_before_no_model", ("    if !(model & true) {",)),
     Row("tests 42 before 40, by definition", "history/no_delivery_before_no_model",
-        ("    ofModel (x .model) (λ b. ofDelivery (x .delivery) (λ e. byVerdict (verdict b d) (cond false new (markOf b (some e) (merged b e d)))))",)),
-    Row("lists no 42 for a merge", "history/no_delivery_not_listed_for_a_merge", ("listed (merge d) = 40 ∷ Prim.Native.Nat._+_ 40 2 ∷ 20",)),
-    Row("marks what is merged against itself", "register/merge_marked_against_itself", ("mark_by(n, delivery, self.numbers, shape, merged)",)),
+        ("    of_model x.model (λ b. of_delivery x.delivery (λ e. by_verdict (verdict b d) (cond false new (mark_of b (some e) (merged b e d)))))",)),
+    Row("lists no 42 for a merge", "history/no_delivery_not_listed_for_a_merge", ("listed (merge d) = 40 ∷ Rattle.std.specs.Prelude.◌+◌ 40 2 ∷ 20 ∷ 21 ∷ 22 ∷ 23 ∷ 24 ∷ 25 ∷ 26 ∷ 27 ∷ []",)),
+    Row("marks what is merged against itself", "register/merge_marked_against_itself", ("let mark = mark_by(n, delivery, self.numbers, shape, merged);",)),
     Row("marks what is merged against the second delivery", "history/merge_marked_against_the_second",
-        ("byVerdict (verdict b d) (cond (sameDelivery b e (merged b e d)) known new)))",)),
+        ("of_model x.model (λ b. of_delivery x.delivery (λ e. by_verdict (verdict b d) (cond (same_delivery b e (merged b e d)) known new)))",)),
     Row("promises of merges before the first call alone", "history/merges_promised_at_the_start_alone",
-        ("  pub merges-held : MergeHeld (let xs = cs in xs)", "use mathlib.Core.List.{List, []}", "  merges-held = merge-held (let xs = cs in xs);")),
+        ("  pub merges_held : MergeHeld (let xs = cs in xs)", "use mathlib.Core.List.{List, []}", "  merges_held = merge_held (let xs = cs in xs);")),
     Row("promises of uppers before the first call alone", "history/uppers_promised_at_the_start_alone",
-        ("  pub uppers-true : UpperShown (let xs = cs in xs)", "use mathlib.Core.List.{List, []}", "  uppers-true = upper-shown (let xs = cs in xs);")),
+        ("  pub uppers_true : UpperShown (let xs = cs in xs)", "use mathlib.Core.List.{List, []}", "  uppers_true = upper_shown (let xs = cs in xs);")),
     Row("promises that a merge makes uppers no smaller", "history/merge_promised_to_blunt",
-        ("replyTo (merge d ∷ cs) (upper p z q) ≡ value w → (let x = u in w ≤ x)",
-         "omega (arith, upper-sharper cs (t .model) (t .former) (t .next) d (t .before) (t .after) p z q u w (t .was) (t .is));")),
+        ("pub uppers : (p z q u w : ℕ) → reply_to cs (upper p z q) ≡ value u → reply_to (merge d ∷ cs) (upper p z q) ≡ value w → (let x = u in w ≤ x)",
+         "omega (arith, upper_sharper cs t.model t.former t.next d t.before t.after p z q u w t.was t.is);")),
     Row("promises the larger of two margins", "ppda/margin_at_least_the_larger",
-        ("use Prim.Native.Nat.{ℕ, _*_, _≤_, _<_, min}",
-         "  pub margin-merged : (u v : Vector) → min (margin m s g v) (margin m s g u) ≤ margin m s g (smaller u v)",
-         "          → min (margin m s g v) (margin m s g u) ≤ share")),
+        ("use Prim.Native.Nat.{ℕ, ◌*◌, ◌≤◌, ◌<◌, min}",
+         "  pub margin_merged : (u v : Vector) → min (margin m s g v) (margin m s g u) ≤ margin m s g (smaller u v)",
+         "→ min (margin m s g v) (margin m s g u) ≤ share (smaller u v p z q) (f m s chance_unit (smaller u v) p z q)")),
     Row("promises a lower strictly under the other upper", "ppda/lower_strictly_under_the_other_upper",
-        ("((p z q : ℕ) → p < s → z < g → q < s → l p z q ≤ v p z q)",)),
+        ("pub lower_under_upper : (u l v : Vector) → Uppers m s g u → Lowers m s g u l → Uppers m s g v → ((p z q : ℕ) → p < s → z < g → q < s → l p z q ≤ v p z q)",)),
     Row("reads the file of a merge before 42", "script/merge_file_read_before_42",
         ("Change::Merge => delivery & model,",)),
 
@@ -273,91 +272,90 @@ TABLE = [
     Row("exchanges row and exit in the place by exit", "model/row_and_exit_exchanged_in_a_place", ("self.rows() * q + row",)),
     Row("leaves the row out of the place by exit", "model/row_left_out_of_a_place", ("self.rows() * q + row",)),
     Row("exchanges state and exit in the place by exit, by definition", "walks/state_and_exit_exchanged_by_definition",
-        ("exitPlace s g p z q = rowAt g (rowAt s q p) z", "byExit s g h i = h ((i / g) % s) (i % g) (i / g / s)")),
+        ("exit_place s g p z q = row_at g (row_at s q p) z", "by_exit s g h i = h ((i / g) % s) (i % g) (i / g / s)")),
     Row("puts the symbol before the state in the place by exit, by definition", "walks/symbol_before_state_by_definition",
-        ("exitPlace s g p z q = rowAt g (rowAt s q p) z", "byExit s g h i = h ((i / g) % s) (i % g) (i / g / s)")),
+        ("exit_place s g p z q = row_at g (row_at s q p) z", "by_exit s g h i = h ((i / g) % s) (i % g) (i / g / s)")),
     Row("has the order of files for the order by exit, by definition", "walks/file_order_by_definition",
-        ("exitPlace s g p z q = rowAt g (rowAt s q p) z", "byExit s g h i = h ((i / g) % s) (i % g) (i / g / s)")),
+        ("exit_place s g p z q = row_at g (row_at s q p) z", "by_exit s g h i = h ((i / g) % s) (i % g) (i / g / s)")),
     Row("puts the numbers of a block by the order of files", "held/walk_in_file_order", ("list[(at)] = (value_at(block, e)) as u32;",)),
     Row("leaves the first exit of a block out", "held/first_exit_left_out", ("let mut q: usize = 0;",)),
     Row("asks with state and exit exchanged", "held/asked_with_state_and_exit_exchanged", ("number_at(list, (n.exit_place(p, z, q)))",)),
     # with the names of the call in the proof
     Row("asks in the order of files", "held/asked_in_file_order",
-        ("number_at(list, (n.exit_place(p, z, q)))", "tie.Need-exit-place-requires", "let place : c .before .exit-place .result ≡",
-         "= c .before .exit-place .ensures .0 in")),
+        ("number_at(list, (n.exit_place(p, z, q)))",)),
     Row("merges with the second's uppers in the order of files, in the contract", "merging/second_in_file_order_in_the_contract",
-        ("use Rattle·held.specs.Held.{ifStanding, listedByExit, listedRows}",
-         "uppersMerged s g former d = keptTo Smaller (entriesIn s g) (former .uppers) (let l = listedByExit s g (uppersOf s g d) in l)")),
+        ("use Rattle.held.specs.Held.{if_standing, listed_by_exit, listed_rows}",
+         "uppers_merged s g former d = kept_to Smaller (entries_in s g) former.uppers (let l = listed_by_exit s g (uppers_of s g d) in l)")),
     Row("works the margin of a merge out by the order of files", "merging/margin_walk_in_file_order",
         ("put_word(block, RECORD_BYTES * e + VALUE_BYTE, (list[at]));",)),
     Row("works the margin of a merge out by the order of files, by definition", "merging/margin_in_file_order_by_definition",
-        ("use Rattle·held.specs.Places.{entriesByExit}",
-         "marginIn b u = margin (rulesOf b) (statesOf b) (symbolsOf b) (λ p z q. entriesByExit (statesOf b) (symbolsOf b) u p z q)")),
+        ("use Rattle.held.specs.Places.{entries_by_exit}",
+         "margin_in b u = margin (rules_of b) (states_of b) (symbols_of b) (λ p z q. entries_by_exit (states_of b) (symbols_of b) u p z q)")),
     Row("has a register before A.6 that shows lowers for uppers", "history/lowers_read_for_uppers_in_file_order",
-        ("(entryValue (r .model .states) (r .model .symbols) (let l = r .numbers .uppers in l) p z q)",)),
+        ("(entry_value r.model.states r.model.symbols (let l = r.numbers.uppers in l) p z q)",)),
     Row("says that uppers are held with state and exit exchanged", "history/state_and_exit_exchanged_where_uppers_are_held",
-        ("getD (r .numbers .uppers) ((q * r .model .states + (let x = p in x))",)),
+        ("pub uppers : (p z q n : ℕ) → reply_of r (upper p z q) ≡ value n → get_or r.numbers.uppers ((q * r.model.states + (let x = p in x)) * r.model.symbols + z) 0 ≡ n",)),
     Row("says that answers are the same before the first call alone", "history/same_answers_at_the_start_alone",
-        ("SameAnswers cs = (c : Call) → replyTo (let xs = cs in xs) c ≡ replyByFile (registerByFile cs) c", "same-answers ds c = let cs : List Call = ds in")),
+        ("SameAnswers cs = (c : Call) → reply_to (let xs = cs in xs) c ≡ reply_by_file (register_by_file cs) c", "same_answers ds c = let cs : List Call = ds in")),
 
     # How long until nearly all are back (request A.7). One step later is true of the runs: it is refused as not the request's.
     Row("promises the tail 1 − r/(n + 1)", "ppda/tail_one_step_later", LATER_BY_NOTHING),
     Row("promises the tail 1 − r/(n + 2)", "ppda/tail_two_steps_later", LATER_BY_NOTHING),
     Row("promises the tail with r taken in whole steps", "ppda/tail_in_whole_steps",
-        ("AtLeastTail n c r = n * (stepUnit * weightUnit ^ n) ≤ n * (stepUnit * c) + r * weightUnit ^ n", "→ r * (a + d) ≤ n * (2 ^ 8 * d) → a * 65536 ^ n",
-         "    le-of-mul-le-mul-left {k = n * 2 ^ 8} (go (65536 ^ n) tail) (mul-pos some (lit< tt))",
+        ("AtLeastTail n c r = n * (step_unit * weight_unit ^ n) ≤ n * (step_unit * c) + r * weight_unit ^ n", "pub window_enough : (n c r a d : ℕ) → 0 < n → AtLeastTail n c r → r * (a + d) ≤ n * (2 ^ 8 * d) → a * 65536 ^ n ≤ (a + d) * c",
+         "    le_of_mul-le-mul_left {k = n * 2 ^ 8} (go (65536 ^ n) tail) (mul-pos some (lit< tt))",
          "    go : (e : ℕ) → n * (2 ^ 8 * e) ≤ n * (2 ^ 8 * c) + r * e → n * 2 ^ 8 * (a * e) ≤ n * 2 ^ 8 * ((a + d) * c)")),
     Row("promises the tail with r rounded down to whole steps", "ppda/tail_rounded_down",
-        ("use Prim.Native.Nat.{ℕ, _+_, _-_, _*_, _/_, _^_, _≤_, _<_}", "AtLeastTail n c r = n * stepUnit * weightUnit ^ n ≤ n * stepUnit * c + (r + 0) * weightUnit ^ n",
-         "use Prim.Native.Nat.{ℕ, zero, suc, _+_, _*_, _/_, _^_, _≤_, _<_}", "    tail-of-mean n = rw (← whole n) (omega (arith, few-away n))",
-         "    go : (e : ℕ) → n * 2 ^ 8 * e ≤ n * 2 ^ 8 * c + (r + 0) * e → n * 2 ^ 8 * (a * e)",
-         "    go e h = omega (arith, mul-le-mul-right (a + d) h, mul-le-mul-right e booked)",
-         "use Prim.Native.Nat.{ℕ, zero, suc, _+_, _*_, _/_, _^_, _≤_}", "no-figure r h = omega (arith, rw", "not-one-exit h =")),
-    Row("promises the tail of one exit alone", "ppda/tail_of_one_exit", ("returnedWithin m s n p z = let k = s in sumTo (λ q. chance m n p z q) k",)),
+        ("use Rattle.std.specs.Prelude.{ℕ, ◌+◌, ◌-◌, ◌*◌, ◌/◌, ◌^◌, ◌≤◌, ◌<◌, true, false, List, ◌≡◌}", "AtLeastTail n c r = n * step_unit * weight_unit ^ n ≤ n * step_unit * c + (r + 0) * weight_unit ^ n",
+         "use Prim.Native.Nat.{ℕ, zero, suc, ◌+◌, ◌*◌, ◌/◌, ◌^◌, ◌≤◌, ◌<◌}", "    tail_of_mean n = rw (← whole n) (omega (arith, few_away n))",
+         "go : (e : ℕ) → n * 2 ^ 8 * e ≤ n * 2 ^ 8 * c + (r + 0) * e → n * 2 ^ 8 * (a * e) ≤ n * 2 ^ 8 * ((a + d) * c)",
+         "    go e h = omega (arith, mul-le-mul_right (a + d) h, mul-le-mul_right e booked)",
+         "use Prim.Native.Nat.{ℕ, zero, suc, ◌+◌, ◌*◌, ◌/◌, ◌^◌, ◌≤◌}", "no_figure r h = omega (arith, rw (chance_by_step_lem forever (suc r) 0 (0 ∷ []) 0, never_back (suc r)) at (h (suc r)), power_positive (suc r))", "not_one_exit h =")),
+    Row("promises the tail of one exit alone", "ppda/tail_of_one_exit", ("returned_within m s n p z = let k = s in sum_to (λ q. chance m n p z q) k",)),
     Row("promises the tail of short runs alone", "ppda/tail_of_short_runs_alone",
-        ("TailHolds m s p z r = (n : ℕ) → (let k = n in AtLeastTail k (returnedWithin m s k p z) r)", "    tail-of-mean n = rw (← whole n) (omega (arith, few-away (let k = n in k)))",
-         "at (h (let k = r in suc k)), power-positive (suc r))")),
+        ("TailHolds m s p z r = (n : ℕ) → (let k = n in AtLeastTail k (returned_within m s k p z) r)", "    tail_of_mean n = rw (← whole n) (omega (arith, few_away (let k = n in k)))",
+         "no_figure r h = omega (arith, rw (chance_by_step_lem forever (suc r) 0 (0 ∷ []) 0, never_back (suc r)) at (h (let k = r in suc k)), power_positive (suc r))")),
     Row("promises the tail of no row of two files", "certificate/tails_of_no_row",
-        ("(let t = s in TailsHold (rulesOf b) t g (meansOf t g h d))",
-         "    tails = λ has p z hp hz. tail-holds _ _ _ _ _ (model-of b d x) (uppers-of b d x) (means-of b d x has) p z hp hz;")),
+        ("pub tails : has_means h ≡ true → (let t = s in TailsHold (rules_of b) t g (means_of t g h d))",
+         "    tails = λ has p z hp hz. tail_holds _ _ _ _ _ (model_of b d x) (uppers_of_lem b d x) (means_of_lem b d x has) p z hp hz;")),
     Row("promises the tail of printed lines of the first state alone", "reader/tail_of_the_first_state_alone",
-        ("  pub tails : (p z r : List ℕ) → LineIn b d (stepsWord ∷ (p ∷ (z ∷ (r ∷ [])))) → TailHolds",
-         "  tails = λ p z r i. steps-line-read b d (TailHolds (rulesOf b) (statesOf b)) (λ h holds. holds .tails) p z r i;",
-         "tail-learnt = (reader wFile (wDelivery 524288 512) .tails _ _ _ (let i = steps-stand in i), reader wFile (wDelivery 524288 512) .tails _ _ _ last-steps-stand)")),
+        ("pub tails : (p z r : List ℕ) → LineIn b d (steps_word ∷ (p ∷ (z ∷ (r ∷ [])))) → TailHolds (rules_of b) (states_of b) (number_in p) (number_in z) (number_in r)",
+         "  tails = λ p z r i. steps_line_read b d (TailHolds (rules_of b) (states_of b)) (λ h holds. holds.tails) p z r i;",
+         "tail_learnt = ((reader w_file (w_delivery 524288 512)).tails _ _ _ (let i = steps_stand in i), (reader w_file (w_delivery 524288 512)).tails _ _ _ last_steps_stand)")),
     Row("promises a tail of few moves alone", "onecounter/tail_of_few_moves_alone",
-        ("PassageTail m s u r = (n : ℕ) → AtLeastTail (let k = n in k)", "  passage-tail s r h n = let k = n in subst", "tail-bites r h = omega (arith, h 2)",
-         "(fun-ext (λ v. passage-is-chance forever n 0 v)) (let k = n in h k))")),
+        ("PassageTail m s u r = (n : ℕ) → AtLeastTail (let k = n in k) (sum_to (λ v. first_passage m n u v) s) r", "passage_tail s r h n = let k = n in subst (λ x. AtLeastTail n (sum_to x s) r) (fun_ext (λ v. sym (passage_is_chance m n u v))) (h n)", "tail_bites r h = omega (arith, h 2)",
+         "no_figure r h = TailEdges.no_figure r (λ n. subst (λ x. AtLeastTail n (sum_to x 1) r) (fun_ext (λ v. passage_is_chance forever n 0 v)) (let k = n in h k))")),
     Row("promises a tail of no passage", "onecounter/tail_promised_weaker",
-        ("(let k = s in AtLeastTail n (sumTo (λ v. firstPassage m n u v) k) r)",
-         "  passage-tail s r h n = subst (λ x. AtLeastTail n (sumTo x s) r) (fun-ext (λ v. sym (passage-is-chance m n u v))) (let k = n in h k)")),
+        ("PassageTail m s u r = (n : ℕ) → (let k = s in AtLeastTail n (sum_to (λ v. first_passage m n u v) k) r)",
+         "  passage_tail s r h n = subst (λ x. AtLeastTail n (sum_to x s) r) (fun_ext (λ v. sym (passage_is_chance m n u v))) (let k = n in h k)")),
     Row("promises a tail of everybody back", "history/tail_promised_of_everybody_back",
-        ("(b : List ℕ) × Holds cs b × ((n : ℕ) → Rattle·ppda.specs.Bounds.AtLeastTail n (Rattle·ppda.specs.Chances.returnedWithin (rulesOf b) (statesOf b) n p z) r)",
-         "tail-shown = figure-shown (λ b p z r. (n : ℕ) → Rattle·ppda.specs.Bounds.AtLeastTail n (returnedWithin (rulesOf b) (statesOf b) n p z) r) (λ b d h holds has p z hp hz n. holds .tails has p z hp hz n)")),
+        ("TailShown cs = (p z r : ℕ) → reply_to cs (mean_steps p z) ≡ value r → (b : List ℕ) × Holds cs b × ((n : ℕ) → Rattle.ppda.specs.Bounds.AtLeastTail n (Rattle.ppda.specs.Chances.returned_within (rules_of b) (states_of b) n p z) r)",
+         "tail_shown = figure_shown (λ b p z r. (n : ℕ) → Rattle.ppda.specs.Bounds.AtLeastTail n (returned_within (rules_of b) (states_of b) n p z) r) (λ b d h holds has p z hp hz n. holds.tails has p z hp hz n)")),
     Row("promises a tail of one exit of what is shown", "history/tail_promised_of_one_exit",
-        ("(b : List ℕ) × Holds cs b × (let s = statesOf b in TailHolds (rulesOf b) s p z r)",)),
+        ("TailShown cs = (p z r : ℕ) → reply_to cs (mean_steps p z) ≡ value r → (b : List ℕ) × Holds cs b × (let s = states_of b in TailHolds (rules_of b) s p z r)",)),
     Row("promises of tails before the first call alone", "history/tails_promised_at_the_start_alone",
-        ("  pub tails-true : TailShown (let xs = cs in xs)", "use mathlib.Core.List.{List, []}", "  tails-true = tail-shown (let xs = cs in xs);")),
+        ("  pub tails_true : TailShown (let xs = cs in xs)", "use mathlib.Core.List.{List, []}", "  tails_true = tail_shown (let xs = cs in xs);")),
     Row("promises of tails of first passage before the first call alone", "history/passage_tails_promised_at_the_start_alone",
-        ("  pub passage-tails-true : PassageTailShown (let xs = cs in xs)", "use mathlib.Core.List.{List, []}", "  passage-tails-true = passage-tail-shown (let xs = cs in xs);")),
+        ("  pub passage_tails_true : PassageTailShown (let xs = cs in xs)", "use mathlib.Core.List.{List, []}", "  passage_tails_true = passage_tail_shown (let xs = cs in xs);")),
 
     Row("the desk replies to the call before, by definition", "script/reply_to_the_call_before",
-        ("use mathlib.Core.List.{List, [], _∷_, _++_, map, headD}", "{Call, clear, fileModel, fileCounter, fileDelivery, merge, cleared}",
-         "textBy es (call c) = replyLine (plainReply (pairOf ([] ++ es)) c)")),
+        ("use Rattle.std.specs.Prelude.{ℕ, Bool, false, not, ◌&&◌, List, [], ◌∷◌, ◌++◌, map, get_or, ◌≡◌}", "use Rattle.calls.specs.Calls.{Call, clear, file_model, file_counter, file_delivery, merge, cleared}",
+         "text_by es (call c) = reply_line (plain_reply (pair_of ([] ++ es)) c)")),
     Row("the desk answers a question from what was held before the filing", "service/reply_from_before_the_call",
-        ("            register = (after);", "            v = (register).view();")),
+        ("FIRST", "            v = (register).view();", "register = (after);")),
     Row("the desk keeps what it found of a model that is no longer held", "service/index_from_before_the_change",
         ("            sizes = (none());",)),
     Row("the desk clears at an unclear line", "said/unclear_line_clears", ("return (Said::Unclear);",)),
-    Row("the desk clears at an unclear line, by definition", "script/unclear_line_clears", ("eventsBy es unclear = [] ++ es",)),
+    Row("the desk clears at an unclear line, by definition", "script/unclear_line_clears", ("events_by es unclear = [] ++ es",)),
     Row("the desk writes known for new", "replies/known_written_for_new", ('Mark::New => put(out, (at), b"new\\n"),',)),
     Row("the desk reads n of `within` after the entry", "said/steps_read_after_the_entry",
         ("            steps: (a),", "            p: (b),", "            z: (c),", "            q: (d),")),
     Row("the desk reads a number as its last digit", "spelling/number_is_its_last_digit", ("10 * n + (digit - 48) as usize",)),
     Row("the desk reads a file before the register's own reasons", "script/file_read_before_own_reasons", ("Change::Model => !model & true,",)),
     Row("the desk reads the name of a counter file a byte late, in definition and code", "service/name_read_a_byte_late",
-        ("nameFrom Counter = (length counterWord) + 1", "        Change::Counter => (8),")),
+        ("name_from Counter = (length counter_word) + 1", "        Change::Counter => (8),")),
     Row("the desk prints the replies in another order, by definition", "script/replies_in_another_order",
-        ("printedAfter es (l ∷ ls) = textBy es (asks l) ++ ([] ++ printedAfter (eventsBy es (asks l)) ls)",)),
+        ("printed_after es (l ∷ ls) = text_by es (asks l) ++ ([] ++ printed_after (events_by es (asks l)) ls)",)),
 ]
 
 
@@ -379,12 +377,9 @@ def twin_lines(row):
 
 
 def make_copy(work, rows):
-    """The crates with the rows' edits and twins alone, and what is proved already."""
-    shutil.copytree(os.path.join(ROOT, "crates"), os.path.join(work, "crates"), ignore=shutil.ignore_patterns("must-fail"))
+    """The crates with the rows' edits and twins alone. rt finds what other checkouts on this machine have proved of the same files."""
+    shutil.copytree(os.path.join(ROOT, "crates"), os.path.join(work, "crates"), ignore=shutil.ignore_patterns("must-fail", "out"))
     shutil.copy(os.path.join(ROOT, "crates.txt"), work)
-    for part in ("rlib", "stamp", "log"):
-        if os.path.isdir(os.path.join(ROOT, "target", part)):
-            shutil.copytree(os.path.join(ROOT, "target", part), os.path.join(work, "target", part))
     for row in rows:
         crate, name = row.label.split("/")
         folder = os.path.join(work, "crates", crate, "must-fail")
@@ -394,86 +389,33 @@ def make_copy(work, rows):
                 file.write("\n".join(lines) + "\n")
 
 
-def tried(work, label):
-    """What rt said of an edit: its word, and the log of the check."""
-    folder = os.path.join(work, "target", "must-fail", label)
-    with open(folder + ".out") as file:
-        said = file.read()
-    if "BAD EDIT" in said:
-        return said.strip(), ""
-    with open(os.path.join(folder, ".log")) as file:
-        log = file.read().replace(folder + "/", "")
-    return ("refused" if "refused, as it must be" in said else "accepted"), log
-
-
-def closing(text, at):
-    """The place after the parenthesis that closes the one at `at`."""
-    depth = 0
-    for i in range(at, len(text)):
-        depth += (text[i] == "(") - (text[i] == ")")
-        if depth == 0:
-            return i + 1
-    return len(text)
-
-
-def locals_named(text):
-    """A local of the code's, which is printed as a look into a table, by its number."""
-    look = re.compile(r"borrow\.Table\.Row\.get (\d+) (?=\()")
-    found = look.search(text)
-    while found:
-        end = closing(text, closing(text, found.end()) + 1)
-        text = text[:found.start()] + "_" + found[1] + text[end:]
-        found = look.search(text)
-    return text
-
-
-def first_error(log):
-    """The first error: its place, and what differs, without the prefixes of modules."""
-    start = re.search(r"^\S+: error: `[^`]*`: ", log, re.M)
-    if not start:
-        return log[:400]
-    text = re.split(r"\n\S", log[start.end():], maxsplit=1)[0]
-    computed = text.find("computed as far as they go")
-    text = text[max(computed, 0):]
-    if computed >= 0 or re.match("as printed", text):
-        text = re.split(r"\n  expected type|\n  `[^`]*`[^\n]* do(?:es)? not unfold", text, maxsplit=1)[0]
-    text = re.split(r" It read \d+ hypotheses", text, maxsplit=1)[0]
-    text = re.sub(r" `[^`]*…\[[^`]*`\s*= \d+,", "", text)  # a term that omega's list of values cuts short
-    text = re.sub(r"\s+", " ", start[0] + locals_named(text))
-    text = re.sub(r"\bc(?: \.before)+", "c ..", text)
-    return re.sub(r"\b(?:Rattle·\w+(?:·\w+)?|mathlib|native|lib|mir|borrow|denote|Prim)(?:\.[\w·-]+)*\.(?=[\w_«])", "", text)
+def without_prefixes(text):
+    """What rt says, without the prefixes of modules."""
+    return re.sub(r"(?<![/\w])(?:Rattle\.\w+|mathlib|native|lib|mir|borrow|denote|Prim)(?:\.[\w-]+)*\.(?=[\w◌«])", "", text)
 
 
 def shown(row, edit, twin):
-    word, log = edit
-    lines = textwrap.wrap(first_error(log), WIDTH - 4) if word == "refused" else [f"NOT REFUSED: {word}"]
-    accepted = "accepted" if twin[0] == "accepted" else f"NOT ACCEPTED: {twin[0]}"
+    """Shows a row by what rt said of its edit and of its twin; whether both are as they must be."""
+    refused, accepted = edit.startswith("refused, as it must be"), twin.startswith("NOT REFUSED: the crate is still proved")
     print(f"{row.label}: {row.stands_for}")
-    print("\n".join("    " + line for line in lines[:MOST_LINES]))
-    print(f"    twin {accepted}", flush=True)
-    if twin[0] == "refused":
-        print("\n".join("    " + line for line in textwrap.wrap(first_error(twin[1]), WIDTH - 4)[:MOST_LINES]), flush=True)
-    return word == "refused" and twin[0] == "accepted"
+    print("\n".join("    " + line for line in textwrap.wrap(without_prefixes(edit), WIDTH - 4)[:MOST_LINES]))
+    print("    twin accepted" if accepted else "\n".join("    " + line for line in textwrap.wrap("twin NOT ACCEPTED: " + without_prefixes(twin), WIDTH - 4)[:MOST_LINES]), flush=True)
+    return refused and accepted
 
 
 def try_all(work, rows):
-    """Shows each row once its edit and its twin have been tried; whether all are as they must be."""
+    """Shows each row once all edits and twins have been tried; whether all are as they must be."""
     make_copy(work, rows)
     crates = sorted({row.label.split("/")[0] for row in rows})
-    left = {row.label: row for row in rows}
-    ended, right = set(), True
+    said = {}
     with subprocess.Popen(["rt", "must-fail", *crates], cwd=work, stdout=subprocess.PIPE, stderr=subprocess.STDOUT, text=True) as run:
         for line in run.stdout:
-            said = re.match(r"rt: must-fail (\S+): ", line)
-            if said:
-                ended.add(said[1])
-            elif "NOT PROVED" in line:
+            told = re.match(r"rt: must-fail (\S+)\.edit: (.*)", line)
+            if told:
+                said[told[1]] = told[2]
+            elif "error" in line or "did not build" in line:
                 print(line, end="", flush=True)
-            for label in [label for label in left if {label, label + "-twin"} <= ended]:
-                right = shown(left.pop(label), tried(work, label), tried(work, label + "-twin")) and right
-    for label in left:
-        print(f"{label}: NOT TRIED")
-    return right and not left
+    return all([shown(row, said.get(row.label, "NOT TRIED"), said.get(row.label + "-twin", "NOT TRIED")) for row in rows])
 
 
 def main():

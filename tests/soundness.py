@@ -51,8 +51,8 @@ def tail_later(steps):
 
 
 # Tails that are not the request's: figures at its edge tell each of them apart. The runs refute those of REFUTED for accepted figures. The others are true of them: r in whole
-# steps claims less than the request, and one step later and r rounded down follow from 1 - (r - 1)/n, which the mean gives too (theorems `tail-after-the-first`,
-# `tail-one-later`, `tail-rounded-down`). A tail that accepted figures break is broken by their mean counted to the same n too, so that kinds are told apart below.
+# steps claims less than the request, and one step later and r rounded down follow from 1 - (r - 1)/n, which the mean gives too (theorems `tail_after_the_first`,
+# `tail_one_later`, `tail_rounded_down`). A tail that accepted figures break is broken by their mean counted to the same n too, so that kinds are told apart below.
 TWO_LATER, ONE_EXIT = "1 - r/(n + 2)", "one exit alone"
 WRONG_TAILS = {
     "1 - r/(n + 1)": tail_later(1),

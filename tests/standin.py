@@ -12,48 +12,66 @@ from typing import NamedTuple
 SCRIPTS = ("show", "desk", "test", "common.sh")
 PATIENCE = 20  # seconds until a script counts as hanging
 NOBODY = 65534
-BASE = "sh awk sed tr find flock tee cat rm mkdir mv cp mktemp mkfifo readlink dirname true env git chmod cksum grep sleep seq".split()
-CRATES = "# who needs whom\nlow:\nhigh: low io\nshowbounds: high # and not: other\ndesk: low\nother:\n"
+BASE = "sh awk sed tr find flock tee cat rm mkdir mv cp mktemp mkfifo readlink dirname true env git chmod cksum grep sleep seq sort".split()
+CRATES = "# who needs whom\nlow:\nhigh may_wait=0: low io\nshowbounds: high # and not: other\ndesk: low\nother:\n"
 
 RT = r"""#!/bin/sh
-prove() {
-    for crate in low high "$1"; do
-        stamp=$(cat crates.txt crates/low/*/* crates/high/*/* "crates/$crate"/*/* | cksum)
-        if [ "$(cat "target/stamp/$crate" 2>/dev/null)" = "$stamp" ]; then
-            echo "rt: $crate proved (unchanged since it was last proved)"
-            continue
-        fi
-        rm -f "target/stamp/$crate"
-        seq 100
-        if grep -q '^WRONG' "crates/$crate"/*/*; then
-            echo "rt: $crate NOT PROVED (exit 1, 0 s)"
-            exit 1
-        elif [ -f "crates/$crate/src/main.rt" ]; then
-            cp "crates/$crate/src/main.rt" "target/bin/$crate" && chmod +x "target/bin/$crate"
-        else
-            mkdir -p "target/rlib/$crate.rlib"
-        fi
-        echo "$stamp" >"target/stamp/$crate"
-        echo "rt: $crate proved (0 s)"
-    done
+# Builds a crate unless its stamp says that neither its text nor what was made of it has changed.
+build() { # CRATE
+    out=crates/$1/out
+    text=$(find crates.txt crates/low crates/high "crates/$1" -regex 'crates/[^/]*/out' -prune -o -type f -exec cat {} + | cksum)
+    if [ "$(cat "$out/stamp" 2>/dev/null)" = "$text $(cat "$out/made" "$out/$1" 2>/dev/null | cksum)" ]; then
+        [ ! -e "$out/$1" ] || echo "rt: nothing has changed since the last proved build, by out/$1.stamp, so nothing is checked now"
+        return
+    fi
+    rm -f "$out/stamp"
+    mkdir -p "$out"
+    echo "rt: chose --jobs 2 for $1"
+    seq 100
+    ! grep -q '^WRONG' "crates/$1"/src/* || return 1
+    if [ -f "crates/$1/src/main.rt" ]; then
+        cp "crates/$1/src/main.rt" "$out/$1" && chmod +x "$out/$1"
+    else
+        echo "$text" >"$out/made"
+    fi
+    echo "$text $(cat "$out/made" "$out/$1" 2>/dev/null | cksum)" >"$out/stamp"
 }
 
-case $1 in
-version) cat "$STATE/kit" ;;
-fmt) [ ! -e "$STATE/fmt-fails" ] ;;
-check | ci)
-    echo "$*" >>"$STATE/rt"
-    cat >/dev/null
-    [ ! -e "$STATE/slow" ] || sleep 0.5
-    [ "$1" = check ] || rm -rf target
-    mkdir -p target/bin target/rlib target/stamp
-    prove "${2:-showbounds}"
+run() { # PROGRAM
+    cd ../..
+    for crate in low high; do
+        build "$crate" || { echo "rt: the library $crate did not build, so nothing above it was checked"; exit 1; }
+    done
+    build "$1" || exit 1
     [ ! -e "$STATE/edit-beside" ] || { rm "$STATE/edit-beside"; echo more >>crates/low/src/lib.rt; }
-    [ "$1" = ci ] || { echo "rt: ok, 3 crates proved"; exit; }
-    prove desk
-    [ ! -e "$STATE/ci-fails" ] || { echo "6 passed, 1 failed"; exit 1; }
+    echo "rt: running out/$1; to give it other input, run that file yourself"
+    cd "crates/$1"
+}
+
+ci() {
+    rm -rf crates/*/out
+    [ ! -e "$STATE/layout" ] || { echo "rt: low NOT PROVED"; echo "0 passed, 4 failed"; exit 1; }
+    for crate in low high showbounds desk; do
+        build "$crate" | sed 1d
+        rm "crates/$crate/out/stamp"
+        echo "rt: $crate proved"
+    done
+    [ ! -e "$STATE/ci-fails" ] || { echo "rt: FAILED: low/wrong.edit"; echo "6 passed, 1 failed"; exit 1; }
+    [ -e "$STATE/untold" ] || echo "rt: ok; handles allowed: none; must-fail edits: 12 refused$(cat "$STATE/bad" 2>/dev/null); every proof and must-fail edit was done in this run"
     echo "7 passed, 0 failed"
+}
+
+[ "$1" != version ] || exec cat "$STATE/kit"
+name=${PWD##*/}
+echo "$* in $name" >>"$STATE/rt"
+cat >/dev/null
+[ ! -e "$STATE/slow" ] || sleep 0.5
+case $1 in
+run)
+    run "$name" >&2
+    exec "out/$name"
     ;;
+ci) ci ;;
 esac
 """
 APT_GET = r"""#!/bin/sh
