@@ -5,7 +5,7 @@ ghost use Rattle.counter.specs.Filing.{counter_outcome, file_counter};
 
 use super::check;
 use super::make::{MADE_BYTES, make};
-use lent::filing::is_stored;
+use lent::filings::is_stored;
 use outcome::{Outcome, Reason, is_refused, refused};
 use register::{Filed, Register};
 

@@ -1,4 +1,4 @@
 // The lent register.
 #![tactic(auto)]
 
-pub mod filing; // filing.rt: the filings on a lent register
+pub mod filings; // filings.rt: the filings on a lent register

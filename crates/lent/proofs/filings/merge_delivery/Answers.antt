@@ -4,7 +4,7 @@ use mathlib.Core.Path.{◌≡◌, sym, ap, ◌∙◌}
 use borrow.Author.Tests.{not-false}
 use Rattle.outcome.specs.Tests.{is_refused}
 use Rattle.register.proofs.Keeps.{merge_keeps}
-use Rattle.lent.proofs.filing.merge_delivery.Goals as goal
+use Rattle.lent.proofs.filings.merge_delivery.Goals as goal
 
 pub returns-else-is_stored : goal.returns-else-is_stored
 returns-else-is_stored c =

@@ -4,7 +4,7 @@ use mathlib.Core.Path.{◌≡◌, sym, ap, ◌∙◌}
 use borrow.Author.Tests.{not-false}
 use Rattle.outcome.specs.Tests.{is_refused}
 use Rattle.register.proofs.Keeps.{delivery_keeps}
-use Rattle.lent.proofs.filing.file_delivery.Goals as goal
+use Rattle.lent.proofs.filings.file_delivery.Goals as goal
 
 pub returns-else-is_stored : goal.returns-else-is_stored
 returns-else-is_stored c =
