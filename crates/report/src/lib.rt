@@ -1,10 +1,10 @@
 // What is printed of a model file and a delivery file: the two are filed in an empty register, which is then asked.
 #![tactic(auto)]
 
+use alive::live_entries;
 use chances::put_chances;
 use gaps::gaps_of;
 use lines::{CHANCE_ROOM, MARGIN_ROOM, STEPS_ROOM, TABLE_ROOM, put_margin, put_refused, put_table};
-use live::live_entries;
 use model::format::{MOST_ENTRIES, MOST_ROWS};
 use model::sizes::{Sizes, records, sizes_of};
 use outcome::{Outcome, is_refused, number};
@@ -12,7 +12,7 @@ use register::Register;
 use steps::put_means;
 
 mod chances; // chances.rt: the lines of the live entries
-mod live; // live.rt: how many entries are live
+mod alive; // alive.rt: how many entries are live
 pub mod self_test; // self_test.rt: the self-test on model W
 mod steps; // steps.rt: the lines of the rows' mean steps
 

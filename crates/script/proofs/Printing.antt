@@ -140,7 +140,7 @@ unfolding after_bytes printed_for
 follows_after {input} {text = text} [] so = rw (append-nil input, append-nil text) so
 follows_after {input} {s} {text} (x ∷ xs) so =
     rw (append_assoc input (x.byte ∷ []) (map (λ x. x.byte) xs), append_assoc text (printed_by s x) (printed_for (byte_taken s x) xs)) at
-    (follows_after xs (follows_step so x))
+    (follows_after {input = input ++ (x.byte ∷ [])} xs (follows_step so x))
 
 -- ---- the theorems
 
