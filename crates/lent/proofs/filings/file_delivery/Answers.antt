@@ -1,12 +1,23 @@
--- `file_delivery`: what the call by value gives is stored if it was accepted, and a refused one gives the register that was lent.
-use mathlib.Core.Bool.{true}
-use mathlib.Core.Path.{◌≡◌, sym, ap, ◌∙◌}
-use borrow.Author.Tests.{not-false}
-use Rattle.outcome.specs.Tests.{is_refused}
+-- `file_delivery`: a refused filing gives the register that was lent, and writes nothing into it.
+use native.Mathlib.Omega.{arith}
+use Rattle.std.proofs.lemmas.Grind.{common_steps}
+use Rattle.register.specs.Filing.{file_delivery}
+use Rattle.register.proofs.Register.file_delivery.Symbol as callee
+use Rattle.register.proofs.Register.file_delivery.Met as callee_thm
 use Rattle.register.proofs.Keeps.{delivery_keeps}
+use Rattle.lent.proofs.Receipts.{receives, leaves_untouched}
+use Rattle.lent.proofs.Untouched.{LeavesUntouched}
+use Rattle.lent.proofs.filings.is_stored.Met as test_thm
+use Rattle.lent.proofs.filings.file_delivery.Symbol.{name, code}
+use Rattle.lent.proofs.filings.file_delivery.Code as own
 use Rattle.lent.proofs.filings.file_delivery.Goals as goal
 
 pub returns-else-is_stored : goal.returns-else-is_stored
-returns-else-is_stored c =
-    let refused : is_refused c.file_delivery-received.result.outcome ≡ true = not-false _ (sym c.is_stored.ensures ∙ c.if-is_stored.false) in
-    (sym (delivery_keeps c.args.held.now c.args.file.now (rw c.file_delivery-received.ensures at refused)), ap (λ f. f.outcome) c.file_delivery-received.ensures, ap (λ f. f.mark) c.file_delivery-received.ensures)
+returns-else-is_stored c = grind (arith, common_steps, delivery_keeps)
+
+-- A refused call writes nothing into the lent register.
+pub file_delivery_untouched : {M : Type 1} → LeavesUntouched (receives file_delivery) name code M
+file_delivery_untouched 𝓤 𝓛 𝓜 𝓡 wired =
+    leaves_untouched callee.name file_delivery 𝓛 𝓜 𝓡 name (own.unfolded 𝓤 𝓛.H 𝓜 𝓡 wired)
+    (callee_thm.met 𝓤 𝓛 𝓜 𝓡 (own.calls-register::Register::file_delivery 𝓡.env wired))
+    (test_thm.met 𝓤 𝓛 𝓜 𝓡 (own.calls-lent::filings::is_stored 𝓡.env wired))

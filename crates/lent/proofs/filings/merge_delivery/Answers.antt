@@ -1,12 +1,23 @@
--- `merge_delivery`: what the call by value gives is stored if it was accepted, and a refused one gives the register that was lent.
-use mathlib.Core.Bool.{true}
-use mathlib.Core.Path.{◌≡◌, sym, ap, ◌∙◌}
-use borrow.Author.Tests.{not-false}
-use Rattle.outcome.specs.Tests.{is_refused}
+-- `merge_delivery`: a refused merge gives the register that was lent, and writes nothing into it.
+use native.Mathlib.Omega.{arith}
+use Rattle.std.proofs.lemmas.Grind.{common_steps}
+use Rattle.register.specs.Merging.{merge_delivery}
+use Rattle.register.proofs.Register.merge_delivery.Symbol as callee
+use Rattle.register.proofs.Register.merge_delivery.Met as callee_thm
 use Rattle.register.proofs.Keeps.{merge_keeps}
+use Rattle.lent.proofs.Receipts.{receives, leaves_untouched}
+use Rattle.lent.proofs.Untouched.{LeavesUntouched}
+use Rattle.lent.proofs.filings.is_stored.Met as test_thm
+use Rattle.lent.proofs.filings.merge_delivery.Symbol.{name, code}
+use Rattle.lent.proofs.filings.merge_delivery.Code as own
 use Rattle.lent.proofs.filings.merge_delivery.Goals as goal
 
 pub returns-else-is_stored : goal.returns-else-is_stored
-returns-else-is_stored c =
-    let refused : is_refused c.merge_delivery-received.result.outcome ≡ true = not-false _ (sym c.is_stored.ensures ∙ c.if-is_stored.false) in
-    (sym (merge_keeps c.args.held.now c.args.file.now (rw c.merge_delivery-received.ensures at refused)), ap (λ f. f.outcome) c.merge_delivery-received.ensures, ap (λ f. f.mark) c.merge_delivery-received.ensures)
+returns-else-is_stored c = grind (arith, common_steps, merge_keeps)
+
+-- A refused call writes nothing into the lent register.
+pub merge_delivery_untouched : {M : Type 1} → LeavesUntouched (receives merge_delivery) name code M
+merge_delivery_untouched 𝓤 𝓛 𝓜 𝓡 wired =
+    leaves_untouched callee.name merge_delivery 𝓛 𝓜 𝓡 name (own.unfolded 𝓤 𝓛.H 𝓜 𝓡 wired)
+    (callee_thm.met 𝓤 𝓛 𝓜 𝓡 (own.calls-register::Register::merge_delivery 𝓡.env wired))
+    (test_thm.met 𝓤 𝓛 𝓜 𝓡 (own.calls-lent::filings::is_stored 𝓡.env wired))
