@@ -21,7 +21,7 @@ use Rattle.model.specs.Rules.{rules_of}
 use Rattle.model.proofs.Accepted.{is_model_lem, sized_fits}
 use Rattle.wellformed.proofs.Accepted.{model_accepted, sized_of}
 use Rattle.delivery.specs.declared.shape.Block.{Block}
-use Rattle.delivery.specs.declared.shape.Block.TheVariants.{Uppers, Lowers, Means}
+use Rattle.delivery.specs.declared.shape.Block.TheVariants.{Lowers, Means}
 use Rattle.delivery.specs.declared.shape.Shape.{Shape}
 use Rattle.delivery.specs.Records.{least_of, most_of, is_due, in_range}
 use Rattle.delivery.specs.Shapes.{has_lowers, has_means}

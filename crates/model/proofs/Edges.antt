@@ -1,6 +1,6 @@
 -- The table of records by their bytes holds, read and made, by computation.
 use Prim.Native.Nat.{◌+◌, ◌*◌, ◌^◌}
-use mathlib.Core.List.{List, [], ◌∷◌}
+use mathlib.Core.List.{[], ◌∷◌}
 use mathlib.Core.Path.{◌≡◌, refl}
 use Rattle.words.specs.Words.{word_at}
 use Rattle.walks.specs.Lists.{list_to}

@@ -8,7 +8,7 @@ use mathlib.Core.Bool.{Bool, true, false}
 use mathlib.Core.List.{List, [], ◌∷◌, ◌++◌}
 use lib.Dec.{eqb, ltb}
 use borrow.Author.Tests.{ltb-true, ltb-false}
-use Rattle.walks.specs.Sums.{bit, sum, In}
+use Rattle.walks.specs.Sums.{bit, In}
 use Rattle.walks.proofs.Sums.{sum_cong, sum_zero}
 use Rattle.ppda.specs.Rules.{Rule, fits, over_row, pushed, Below, IsModel}
 use Rattle.ppda.specs.Chances.{counted, mass, chance_from}

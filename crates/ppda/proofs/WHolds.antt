@@ -8,7 +8,7 @@ use mathlib.Core.List.{[], ◌∷◌, flat_map}
 use lib.Dec.{lit<, lit≤}
 use Rattle.walks.specs.Sums.{sum, sum_to, sign}
 use Rattle.ppda.specs.Units.{most_chance}
-use Rattle.ppda.specs.Rules.{rule, fits, over_row, IsModel}
+use Rattle.ppda.specs.Rules.{fits, over_row, IsModel}
 use Rattle.walks.specs.Lists.{lists}
 use Rattle.ppda.specs.Runs.{after, weigh, over_runs, over_runs_within}
 use Rattle.ppda.specs.Chances.{mean, counted, chance_from}

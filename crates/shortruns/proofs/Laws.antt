@@ -1,5 +1,5 @@
 -- The laws that the functions' proofs share: the chance of one symbol record by record, that of a stacked pair term by term, and their limits.
-use Prim.Native.Nat.{ℕ, zero, suc, ◌+◌, ◌-◌, ◌*◌, ◌/◌, ◌%◌, ◌^◌, ◌≤◌, ◌<◌}
+use Prim.Native.Nat.{ℕ, zero, suc, ◌+◌, ◌*◌, ◌/◌, ◌%◌, ◌^◌, ◌≤◌, ◌<◌}
 use native.Mathlib.Nat.{le_trans, le_of_eq, zero-add, one-mul, mul-one, mul_comm, mul-le-mul_left, pow-succ', eq-zero-or-pos}
 use native.Mathlib.Omega.{arith}
 use mathlib.Core.List.{List, [], append-nil}

@@ -10,13 +10,13 @@ use Rattle.bounds.proofs.bounds_check_delivery.Goals as goal
 pub code-requires : goal.code-requires
 code-requires c =
     let decided : let args = c.args in c.check-found.result ≡ verdict args.model.now args.delivery.now =
-        model_decides _ _ _ c.check-found.ensures c.in-Refused.is in
+    model_decides _ _ _ c.check-found.ensures c.in-Refused.is in
     place_below _ (λ r i k e. place_fits _ _ r i k (sym decided ∙ e))
 
 pub returns-in-Refused : goal.returns-in-Refused
 returns-in-Refused c =
     let decided : let args = c.args in c.check-found.result ≡ verdict args.model.now args.delivery.now =
-        model_decides _ _ _ c.check-found.ensures c.in-Refused.is in
+    model_decides _ _ _ c.check-found.ensures c.in-Refused.is in
     c.code.ensures ∙ ap code_of decided
 
 pub code-requires-2 : goal.code-requires-2

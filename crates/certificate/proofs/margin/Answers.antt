@@ -13,17 +13,17 @@ returns-in-Refused c = none_if_refused _ _ (sym c.check-found.ensures ∙ c.in-R
 pub shape_of-requires : goal.shape_of-requires
 shape_of-requires c =
     let accepted : let args = c.args in verdict args.model.now args.delivery.now ≡ Accepted =
-        sym c.check-found.ensures ∙ c.in_default.is in
+    sym c.check-found.ensures ∙ c.in_default.is in
     let sized : let n = c.sizes_of-n.result in Sized c.args.model.now n.states n.symbols =
-        sized_by_verdict _ accepted c.sizes_of-n.ensures.0 in
+    sized_by_verdict _ accepted c.sizes_of-n.ensures.0 in
     sized_fits sized
 
 pub margin_with_lowers-requires : goal.margin_with_lowers-requires
 margin_with_lowers-requires c =
     let accepted : let args = c.args in verdict args.model.now args.delivery.now ≡ Accepted =
-        sym c.check-found.ensures ∙ c.in_default.is in
+    sym c.check-found.ensures ∙ c.in_default.is in
     let sized : let n = c.sizes_of-n.result in Sized c.args.model.now n.states n.symbols =
-        sized_by_verdict _ accepted c.sizes_of-n.ensures.0 in
+    sized_by_verdict _ accepted c.sizes_of-n.ensures.0 in
     let shape = c in
     let sizes = shape in (
       record {
@@ -36,7 +36,7 @@ margin_with_lowers-requires c =
 pub returns-then-has_lowers : goal.returns-then-has_lowers
 returns-then-has_lowers c =
     let accepted : let args = c.args in verdict args.model.now args.delivery.now ≡ Accepted =
-        sym c.check-found.ensures ∙ c.in_default.is in
+    sym c.check-found.ensures ∙ c.in_default.is in
     let shape = c in
     let sizes = shape in
     shown_with_lowers _ _ (accepted) sizes.sizes_of-n.ensures.0
@@ -47,7 +47,7 @@ returns-then-has_lowers c =
 pub returns-else-has_lowers : goal.returns-else-has_lowers
 returns-else-has_lowers c =
     let accepted : let args = c.args in verdict args.model.now args.delivery.now ≡ Accepted =
-        sym c.check-found.ensures ∙ c.in_default.is in
+    sym c.check-found.ensures ∙ c.in_default.is in
     let shape = c in
     let sizes = shape in
     none_without_lowers _ _ (accepted) sizes.sizes_of-n.ensures.0
@@ -57,7 +57,7 @@ returns-else-has_lowers c =
 pub returns-in-Unknown : goal.returns-in-Unknown
 returns-in-Unknown c =
     let accepted : let args = c.args in verdict args.model.now args.delivery.now ≡ Accepted =
-        sym c.check-found.ensures ∙ c.in_default.is in
+    sym c.check-found.ensures ∙ c.in_default.is in
     let sizes = c in
     none_if_unknown _ _ (accepted) sizes.sizes_of-n.ensures.0
     (sym c.shape_of.ensures ∙ c.in-Unknown.is)

@@ -13,11 +13,11 @@ returns-in-Refused c = shape_of_refused _ _ (sym c.check-found.ensures ∙ c.in-
 pub shape_of-requires : goal.shape_of-requires
 shape_of-requires c =
     let accepted : model_verdict c.args.model.now ≡ Accepted =
-        sym c.check-found.ensures ∙ c.in_default.is in
+    sym c.check-found.ensures ∙ c.in_default.is in
     sized_fits (sized_by accepted c.sizes_of.ensures.0)
 
 pub returns : goal.returns
 returns c =
     let accepted : model_verdict c.args.model.now ≡ Accepted =
-        sym c.check-found.ensures ∙ c.in_default.is in
+    sym c.check-found.ensures ∙ c.in_default.is in
     shape_of_accepted _ _ accepted c.sizes_of.ensures.0 c.shape_of.ensures

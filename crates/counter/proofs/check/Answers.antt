@@ -21,28 +21,28 @@ check_moves-found-requires c = omega arith
 pub returns-in-Refused : goal.returns-in-Refused
 returns-in-Refused c =
     let whole : whole_moves (length c.args.file.now) ≡ true =
-        sym c.whole_moves.ensures ∙ c.if-not-whole_moves.false in
+    sym c.whole_moves.ensures ∙ c.if-not-whole_moves.false in
     let found : c.check_moves-found.result ≡ moves_outcome c.args.file.now =
-        c.check_moves-found.ensures ∙ rw c.moves.ensures in
+    c.check_moves-found.ensures ∙ rw c.moves.ensures in
     let all = found in
     all ∙ sym (moves_decide _ whole (λ a. refusal_not_accepted _ (all ∙ a) c.in-Refused.is))
 
 pub check-requires : goal.check-requires
 check-requires c =
     let whole : whole_moves (length c.args.file.now) ≡ true =
-        sym c.whole_moves.ensures ∙ c.if-not-whole_moves.false in
+    sym c.whole_moves.ensures ∙ c.if-not-whole_moves.false in
     let found : c.check_moves-found.result ≡ moves_outcome c.args.file.now =
-        c.check_moves-found.ensures ∙ rw c.moves.ensures in
+    c.check_moves-found.ensures ∙ rw c.moves.ensures in
     let passed : moves_outcome c.args.file.now ≡ Accepted =
-        sym found ∙ c.in_default.is in
+    sym found ∙ c.in_default.is in
     moves_right _ whole passed
 
 pub returns : goal.returns
 returns c =
     let whole : whole_moves (length c.args.file.now) ≡ true =
-        sym c.whole_moves.ensures ∙ c.if-not-whole_moves.false in
+    sym c.whole_moves.ensures ∙ c.if-not-whole_moves.false in
     let found : c.check_moves-found.result ≡ moves_outcome c.args.file.now =
-        c.check_moves-found.ensures ∙ rw c.moves.ensures in
+    c.check_moves-found.ensures ∙ rw c.moves.ensures in
     let passed : moves_outcome c.args.file.now ≡ Accepted =
-        sym found ∙ c.in_default.is in
+    sym found ∙ c.in_default.is in
     c.check.ensures ∙ sym (sums_decide _ whole passed)

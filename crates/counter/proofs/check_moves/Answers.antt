@@ -1,5 +1,4 @@
 -- `check_moves`: the loop returns at the first record that is refused, after every record before it has passed.
-use Prim.Native.Nat.{◌-◌}
 use native.Mathlib.Omega.{arith}
 use mathlib.Core.Path.{sym, ◌∙◌}
 use Rattle.outcome.proofs.Tests.{each_none, each_more, each_hit, refusal_not_accepted}

@@ -3,7 +3,7 @@ use Prim.Native.Nat.{◌≤◌}
 use native.Mathlib.Omega.{arith}
 use mathlib.Core.Bool.{true}
 use mathlib.Core.Path.{◌≡◌, sym, ◌∙◌}
-use lib.ListN.{length, length-map}
+use lib.ListN.{length}
 use lib.Seq.{length-take-le}
 use Rattle.model.specs.Format.{most_bytes}
 use Rattle.held.specs.Held.{holds_model}
@@ -17,27 +17,27 @@ returns-then-not-holds_model c = c.refused.ensures ∙ sym (no_model_held _ _ (s
 pub slice_bounds-bytes-end : goal.slice_bounds-bytes-end
 slice_bounds-bytes-end c =
     let bytes-size : length c.args.held.bytes ≡ most_bytes =
-        c.well_formed.0.1.1.0.1.0.1 in
+    c.well_formed.0.1.1.0.1.0.1 in
     let holds : holds_model c.args.held.length ≡ true =
-        sym c.holds_model.ensures ∙ c.if-not-holds_model.false in
+    sym c.holds_model.ensures ∙ c.if-not-holds_model.false in
     let within : let model = c.args.held in model.length ≤ length model.bytes =
-        omega (arith, held_fits _ holds, bytes-size) in
+    omega (arith, held_fits _ holds, bytes-size) in
     within
 
 pub slice_bounds-check-end : goal.slice_bounds-check-end
 slice_bounds-check-end c =
     let bytes-size : length c.args.held.bytes ≡ most_bytes =
-        c.well_formed.0.1.1.0.1.0.1 in
+    c.well_formed.0.1.1.0.1.0.1 in
     let holds : holds_model c.args.held.length ≡ true =
-        sym c.holds_model.ensures ∙ c.if-not-holds_model.false in
+    sym c.holds_model.ensures ∙ c.if-not-holds_model.false in
     let within : let model = c.args.held in model.length ≤ length model.bytes =
-        omega (arith, held_fits _ holds, bytes-size) in
+    omega (arith, held_fits _ holds, bytes-size) in
     sym (length-take-le _ _ within)
 
 pub returns : goal.returns
 returns c =
     let holds : holds_model c.args.held.length ≡ true =
-        sym c.holds_model.ensures ∙ c.if-not-holds_model.false in
+    sym c.holds_model.ensures ∙ c.if-not-holds_model.false in
     let branch = c in
     let args = branch.args in
     c.check.ensures ∙ sym (delivery_judged args.held args.file.now (holds))

@@ -10,19 +10,19 @@ use Rattle.gaps.proofs.gaps_of.Goals as goal
 pub find_starts-requires : goal.find_starts-requires
 find_starts-requires c =
     let sized : Sized c.args.model.now c.sizes_of-n.result.states c.sizes_of-n.result.symbols =
-        sized_by_verdict _ c.requires c.sizes_of-n.ensures.0 in
+    sized_by_verdict _ c.requires c.sizes_of-n.ensures.0 in
     (sized, refl)
 
 pub entries-requires : goal.entries-requires
 entries-requires c =
     let sized : Sized c.args.model.now c.sizes_of-n.result.states c.sizes_of-n.result.symbols =
-        sized_by_verdict _ c.requires c.sizes_of-n.ensures.0 in
+    sized_by_verdict _ c.requires c.sizes_of-n.ensures.0 in
     sized_fits sized
 
 pub slice_bounds-uppers-end : goal.slice_bounds-uppers-end
 slice_bounds-uppers-end c =
     let sized : Sized c.args.model.now c.sizes_of-n.result.states c.sizes_of-n.result.symbols =
-        sized_by_verdict _ c.requires c.sizes_of-n.ensures.0 in
+    sized_by_verdict _ c.requires c.sizes_of-n.ensures.0 in
     let entries = c in
     let sizes = entries in
     sym (length-take-le _ _ (block_fits _ (sized) sizes.requires entries.entries.ensures.0))

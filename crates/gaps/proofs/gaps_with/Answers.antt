@@ -1,5 +1,4 @@
 -- `gaps_with`: the numbers of the entries passed are in the list.
-use Prim.Native.Nat.{◌-◌}
 use native.Mathlib.Omega.{arith}
 use Rattle.model.proofs.Accepted.{sized_fits}
 use Rattle.gaps.proofs.Differences.{gaps_filled}

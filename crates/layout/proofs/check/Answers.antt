@@ -24,7 +24,7 @@ returns-in-Refused c =
 
 pub returns-in-Refused-found : goal.returns-in-Refused-found
 returns-in-Refused-found c =
-    let uppers-passed : let args = c.args in first (upper_records args.n.states args.n.symbols args.delivery.now) ≡ Accepted =  let uppers_found : let args = c.args in c.check_block-found.result ≡ first (upper_records args.n.states args.n.symbols args.delivery.now) = c.check_block-found.ensures ∙ ap first (sym (uppers_walked _ _ _)) in sym (uppers_found) ∙ c.in_default.is in
+    let uppers-passed : let args = c.args in first (upper_records args.n.states args.n.symbols args.delivery.now) ≡ Accepted = let uppers_found : let args = c.args in c.check_block-found.result ≡ first (upper_records args.n.states args.n.symbols args.delivery.now) = c.check_block-found.ensures ∙ ap first (sym (uppers_walked _ _ _)) in sym (uppers_found) ∙ c.in_default.is in
     let found = c.check_lowers-found.ensures in
     found
     ∙ sym (lowers_decide _ _ _ _ (uppers-passed) (λ a. refusal_not_accepted _ (found ∙ a) c.in-Refused-found.is))
@@ -38,7 +38,7 @@ check_block-requires c =
 
 pub returns-then-has_means : goal.returns-then-has_means
 returns-then-has_means c =
-    let uppers-passed : let args = c.args in first (upper_records args.n.states args.n.symbols args.delivery.now) ≡ Accepted =  let uppers_found : let args = c.args in c.check_block-found.result ≡ first (upper_records args.n.states args.n.symbols args.delivery.now) = c.check_block-found.ensures ∙ ap first (sym (uppers_walked _ _ _)) in sym (uppers_found) ∙ c.in_default.is in
+    let uppers-passed : let args = c.args in first (upper_records args.n.states args.n.symbols args.delivery.now) ≡ Accepted = let uppers_found : let args = c.args in c.check_block-found.result ≡ first (upper_records args.n.states args.n.symbols args.delivery.now) = c.check_block-found.ensures ∙ ap first (sym (uppers_walked _ _ _)) in sym (uppers_found) ∙ c.in_default.is in
     let lowers-passed : let args = c.args in first (only_if (has_lowers args.shape) (lower_records args.n.states args.n.symbols args.delivery.now)) ≡ Accepted = sym c.check_lowers-found.ensures ∙ c.in_default-found.is in
     let has : has_means c.args.shape ≡ true = sym c.has_means.ensures ∙ c.if-has_means.true in
     let means-found : let args = c.args in c.check_block.result ≡ first (mean_records args.n.states args.n.symbols args.shape args.delivery.now) = c.check_block.ensures ∙ ap first (sym (means_walked _ _ _ _ c.means_from.ensures.0)) in
@@ -47,7 +47,7 @@ returns-then-has_means c =
 
 pub returns-else-has_means : goal.returns-else-has_means
 returns-else-has_means c =
-    let uppers-passed : let args = c.args in first (upper_records args.n.states args.n.symbols args.delivery.now) ≡ Accepted =  let uppers_found : let args = c.args in c.check_block-found.result ≡ first (upper_records args.n.states args.n.symbols args.delivery.now) = c.check_block-found.ensures ∙ ap first (sym (uppers_walked _ _ _)) in sym (uppers_found) ∙ c.in_default.is in
+    let uppers-passed : let args = c.args in first (upper_records args.n.states args.n.symbols args.delivery.now) ≡ Accepted = let uppers_found : let args = c.args in c.check_block-found.result ≡ first (upper_records args.n.states args.n.symbols args.delivery.now) = c.check_block-found.ensures ∙ ap first (sym (uppers_walked _ _ _)) in sym (uppers_found) ∙ c.in_default.is in
     let lowers-passed : let args = c.args in first (only_if (has_lowers args.shape) (lower_records args.n.states args.n.symbols args.delivery.now)) ≡ Accepted = sym c.check_lowers-found.ensures ∙ c.in_default-found.is in
     sym (where_it_does_not _ _ (sym c.has_means.ensures ∙ c.if-has_means.false))
     ∙ sym (means_decide _ _ _ _ (uppers-passed) (lowers-passed))

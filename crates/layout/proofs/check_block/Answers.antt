@@ -1,5 +1,4 @@
 -- `check_block`: the loop returns at the first state with a record that is refused, after every state before it has passed.
-use Prim.Native.Nat.{◌-◌}
 use native.Mathlib.Omega.{arith}
 use mathlib.Core.Path.{sym, ◌∙◌}
 use borrow.Author.Rules.{rules}

@@ -1,5 +1,4 @@
 -- `check_row`: the loop returns at the first record that is refused, after every record before it has passed.
-use Prim.Native.Nat.{◌-◌}
 use native.Mathlib.Omega.{arith}
 use mathlib.Core.Path.{sym, ◌∙◌}
 use borrow.Author.Rules.{rules}

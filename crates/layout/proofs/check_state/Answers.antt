@@ -1,5 +1,4 @@
 -- `check_state`: the loop returns at the first row that is refused, after every row before it has passed.
-use Prim.Native.Nat.{◌-◌}
 use native.Mathlib.Omega.{arith}
 use mathlib.Core.Path.{sym, ◌∙◌}
 use borrow.Author.Rules.{rules}

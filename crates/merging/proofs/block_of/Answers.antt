@@ -1,5 +1,4 @@
 -- `block_of`: after each turn the records of one row more have the listed uppers as values, and the others 0.
-use Prim.Native.Nat.{◌-◌}
 use native.Mathlib.Omega.{arith}
 use mathlib.Core.Path.{refl}
 use borrow.Author.Rules.{rules}

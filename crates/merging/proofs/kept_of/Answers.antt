@@ -1,9 +1,8 @@
 -- `kept_of`: after e turns the list has what is kept of the first e pairs, and 0 from there on.
-use Prim.Native.Nat.{◌-◌}
 use native.Mathlib.Omega.{arith}
 use mathlib.Core.Path.{refl}
 use borrow.Author.Rules.{rules}
-use Rattle.merging.specs.Numbers.{kept, kept_to}
+use Rattle.merging.specs.Numbers.{kept_to}
 use Rattle.held.proofs.Listed.{padded_none, padded_step, padded_end}
 use Rattle.merging.proofs.kept_of.Goals as goal
 

@@ -1,5 +1,5 @@
 -- `put_row`: after q turns the first q records of the row have as values what is listed by exit for the row and these exits.
-use Prim.Native.Nat.{◌+◌, ◌-◌, ◌*◌}
+use Prim.Native.Nat.{◌+◌, ◌*◌}
 use native.Mathlib.Omega.{arith}
 use mathlib.Core.Path.{ap, ◌∙◌}
 use lib.ListN.{get_or}

@@ -9,5 +9,5 @@ use Rattle.questions.proofs.within.Goals as goal
 pub short_chance-value-requires : goal.short_chance-value-requires
 short_chance-value-requires c =
     let held : holds_model c.args.held.length ≡ true =
-        sym c.holds_model-model.ensures ∙ ((and-eq-true_iff c.holds_model-model.result _).0 (c.if-not-model-inside.false)).0 in
+    sym c.holds_model-model.ensures ∙ ((and-eq-true_iff c.holds_model-model.result _).0 (c.if-not-model-inside.false)).0 in
     let holds = held in (omega (arith, held_fits _ holds), c.requires holds)

@@ -1,5 +1,4 @@
 -- `find_starts`: each row starts where `start` finds it, and what was passed before stays earlier than the next row.
-use Prim.Native.Nat.{◌-◌}
 use Rattle.model.proofs.Accepted.{sized_fits}
 use Rattle.rows.proofs.find_starts.Goals as goal
 

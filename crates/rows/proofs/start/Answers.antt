@@ -1,5 +1,4 @@
 -- `start`: every record passed is of an earlier row, and the records ascend.
-use Prim.Native.Nat.{◌-◌}
 use native.Mathlib.Omega.{arith}
 use mathlib.Core.Path.{◌≡◌}
 use borrow.Author.Count.{below_more}

@@ -29,7 +29,7 @@ returns-in-Refused c =
 pub check-requires : goal.check-requires
 check-requires c =
     let whole : whole_records (length c.args.model.now) ≡ true = sym c.whole_records.ensures ∙ c.if-not-whole_records.false in
-    let passed : records_outcome c.args.model.now ≡ Accepted =  let found : c.check_records-walked.result.found ≡ records_outcome c.args.model.now = c.check_records-walked.ensures.0 ∙ rw c.records.ensures in sym (found) ∙ c.in_default.is in
+    let passed : records_outcome c.args.model.now ≡ Accepted = let found : c.check_records-walked.result.found ≡ records_outcome c.args.model.now = c.check_records-walked.ensures.0 ∙ rw c.records.ensures in sym (found) ∙ c.in_default.is in
     let walked = c in (
       records_right _ (whole) (passed),
       records_ascend _ (passed),
@@ -39,5 +39,5 @@ check-requires c =
 pub returns : goal.returns
 returns c =
     let whole : whole_records (length c.args.model.now) ≡ true = sym c.whole_records.ensures ∙ c.if-not-whole_records.false in
-    let passed : records_outcome c.args.model.now ≡ Accepted =  let found : c.check_records-walked.result.found ≡ records_outcome c.args.model.now = c.check_records-walked.ensures.0 ∙ rw c.records.ensures in sym (found) ∙ c.in_default.is in
+    let passed : records_outcome c.args.model.now ≡ Accepted = let found : c.check_records-walked.result.found ≡ records_outcome c.args.model.now = c.check_records-walked.ensures.0 ∙ rw c.records.ensures in sym (found) ∙ c.in_default.is in
     c.check.ensures ∙ sym (rows_decide _ (whole) (passed))

@@ -1,6 +1,5 @@
 -- `check_records`: the loop returns at the first record that is refused, by itself or by its order, after every record before it has passed; the
 -- sizes are those of the records passed.
-use Prim.Native.Nat.{◌-◌}
 use native.Mathlib.Omega.{arith}
 use mathlib.Core.Path.{◌≡◌, sym, ◌∙◌}
 use borrow.Author.Rules.{rules}
@@ -28,7 +27,7 @@ returns-in-Refused c = let found = c.check-found.ensures in
 pub returns-then-not-ascends : goal.returns-then-not-ascends
 returns-then-not-ascends c =
     let own : first (own_tests c.args.model.now c.loop-i.i) ≡ Accepted = sym c.check-found.ensures ∙ c.in_default.is in
-    let order : c.ascends.result ≡ ascends c.args.model.now c.loop-i.i =  let own : first (own_tests c.args.model.now c.loop-i.i) ≡ Accepted = sym c.check-found.ensures ∙ c.in_default.is in c.ascends.ensures _ c.loop-i.invariant.2 (numbered (own) c.key_number-number.ensures) in
+    let order : c.ascends.result ≡ ascends c.args.model.now c.loop-i.i = let own : first (own_tests c.args.model.now c.loop-i.i) ≡ Accepted = sym c.check-found.ensures ∙ c.in_default.is in c.ascends.ensures _ c.loop-i.invariant.2 (numbered (own) c.key_number-number.ensures) in
     let turn = c in
     let fails = order_fails _ _ (own) (sym (order) ∙ c.if-not-ascends.true) in (
       each_refused _ _ _ _ turn.loop-i-test.true turn.loop-i.invariant.1 (c.refused-found.ensures ∙ sym fails) c.refused-found.ensures,
@@ -38,11 +37,10 @@ returns-then-not-ascends c =
 pub loop-i-preserved : goal.loop-i-preserved
 loop-i-preserved c =
     let own : first (own_tests c.args.model.now c.loop-i.i) ≡ Accepted = sym c.check-found.ensures ∙ c.in_default.is in
-    let order : c.ascends.result ≡ ascends c.args.model.now c.loop-i.i =  let own : first (own_tests c.args.model.now c.loop-i.i) ≡ Accepted = sym c.check-found.ensures ∙ c.in_default.is in c.ascends.ensures _ c.loop-i.invariant.2 (numbered (own) c.key_number-number.ensures) in
-    (
-  omega arith,
-  each_more _ _ c.loop-i.invariant.1
-      (record_passes _ _ (own) (sym (order) ∙ c.if-not-ascends.false)),
-  before_next (numbered (own) c.key_number-number.ensures),
-  c.with_record-sizes.ensures,
-)
+    let order : c.ascends.result ≡ ascends c.args.model.now c.loop-i.i = let own : first (own_tests c.args.model.now c.loop-i.i) ≡ Accepted = sym c.check-found.ensures ∙ c.in_default.is in c.ascends.ensures _ c.loop-i.invariant.2 (numbered (own) c.key_number-number.ensures) in (
+      omega arith,
+      each_more _ _ c.loop-i.invariant.1
+          (record_passes _ _ (own) (sym (order) ∙ c.if-not-ascends.false)),
+      before_next (numbered (own) c.key_number-number.ensures),
+      c.with_record-sizes.ensures,
+    )

@@ -9,13 +9,13 @@ use Rattle.certificate.proofs.beside.check.Goals as goal
 pub shape_of-requires : goal.shape_of-requires
 shape_of-requires c =
     let sized : let n = c.sizes_of-n.result in Sized c.args.model.now n.states n.symbols =
-        sized_by c.requires c.sizes_of-n.ensures.0 in
+    sized_by c.requires c.sizes_of-n.ensures.0 in
     sized_fits sized
 
 pub check_shaped-requires : goal.check_shaped-requires
 check_shaped-requires c =
     let sized : let n = c.sizes_of-n.result in Sized c.args.model.now n.states n.symbols =
-        sized_by c.requires c.sizes_of-n.ensures.0 in
+    sized_by c.requires c.sizes_of-n.ensures.0 in
     let shape = c in
     record { sized = sized; of = sym shape.shape_of.ensures ∙ shape.in-Of.is }
 

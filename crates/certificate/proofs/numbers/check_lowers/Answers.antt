@@ -15,7 +15,7 @@ entries-v-requires c = sized_fits c.requires.files.0.sized
 pub returns-in-Refused : goal.returns-in-Refused
 returns-in-Refused c =
     let stand : c.args.lowers ≡ true =
-        c.if-not-lowers.false in
+    c.if-not-lowers.false in
     let entries = c in
     let args = entries.args in
     below_refused _ _ _ entries.entries-v.ensures.0 args.lowers (stand)
@@ -24,7 +24,7 @@ returns-in-Refused c =
 pub returns : goal.returns
 returns c =
     let stand : c.args.lowers ≡ true =
-        c.if-not-lowers.false in
+    c.if-not-lowers.false in
     let entries = c in
     let start = entries in
     lower_found _ _ _ entries.entries-v.ensures.0 start.args.lowers (stand)

@@ -16,9 +16,9 @@ entries-v-requires c = sized_fits c.requires.indexed.sized
 pub check-requires-clause-files : goal.check-requires-clause-files
 check-requires-clause-files c =
     let means-stand : has_means c.args.shape ≡ true =
-        sym c.has_means.ensures ∙ c.if-not-has_means.false in
+    sym c.has_means.ensures ∙ c.if-not-has_means.false in
     let lowers-stand : has_lowers c.args.shape ≡ true =
-        sym c.has_lowers.ensures ∙ c.if-has_lowers.true in
+    sym c.has_lowers.ensures ∙ c.if-has_lowers.true in
     let entries = c in
     let pre = entries.requires in
     let block = block_after_lowers pre.read (means-stand) entries.entries-v.ensures.0 lowers-stand in
@@ -27,9 +27,9 @@ check-requires-clause-files c =
 pub returns-then-has_lowers : goal.returns-then-has_lowers
 returns-then-has_lowers c =
     let means-stand : has_means c.args.shape ≡ true =
-        sym c.has_means.ensures ∙ c.if-not-has_means.false in
+    sym c.has_means.ensures ∙ c.if-not-has_means.false in
     let lowers-stand : has_lowers c.args.shape ≡ true =
-        sym c.has_lowers.ensures ∙ c.if-has_lowers.true in
+    sym c.has_lowers.ensures ∙ c.if-has_lowers.true in
     let entries = c in
     means_after_lowers _ _ _ _ entries.args.uppers.now _ _ (means-stand)
     entries.entries-v.ensures.0 lowers-stand c.check.ensures
@@ -37,7 +37,7 @@ returns-then-has_lowers c =
 pub check-requires-2-clause-files : goal.check-requires-2-clause-files
 check-requires-2-clause-files c =
     let means-stand : has_means c.args.shape ≡ true =
-        sym c.has_means.ensures ∙ c.if-not-has_means.false in
+    sym c.has_means.ensures ∙ c.if-not-has_means.false in
     let pre = c.requires in
     let block = block_alone pre.read means-stand (sym c.has_lowers.ensures ∙ c.if-has_lowers.false) in
     (pre.indexed, pre.uppers, block)
@@ -45,7 +45,7 @@ check-requires-2-clause-files c =
 pub returns : goal.returns
 returns c =
     let means-stand : has_means c.args.shape ≡ true =
-        sym c.has_means.ensures ∙ c.if-not-has_means.false in
+    sym c.has_means.ensures ∙ c.if-not-has_means.false in
     let entries = c in
     means_alone _ _ _ _ entries.args.uppers.now _ _ (means-stand)
     entries.entries-v.ensures.0 (sym c.has_lowers.ensures ∙ c.if-has_lowers.false) c.check-2.ensures

@@ -11,7 +11,7 @@ returns-then-not-lowers c = rw (c.if-not-lowers.true) (sym first_empty)
 pub returns : goal.returns
 returns c =
     let stand : c.args.lowers ≡ true =
-        c.if-not-lowers.false in
+    c.if-not-lowers.false in
     let args = c.args in
     dead_found _ _ _ c.entries-v.ensures.0 args.lowers stand
     args.live.now _ c.check_dead.ensures

@@ -15,7 +15,7 @@ returns-then-is_refused c = let tested = c in
 pub make-n-requires : goal.make-n-requires
 make-n-requires c =
     let passed : CounterFile c.args.file.now =
-        let tested = c in (counter_accepted _).0 (counter_passed _ _ (sym tested.counter_outcome-outcome.ensures ∙ not_refused _ (sym tested.is_refused.ensures ∙ c.if-is_refused.false))).1 in
+    let tested = c in (counter_accepted _).0 (counter_passed _ _ (sym tested.counter_outcome-outcome.ensures ∙ not_refused _ (sym tested.is_refused.ensures ∙ c.if-is_refused.false))).1 in
     (passed.records, omega arith)
 
 pub returns : goal.returns

@@ -1,5 +1,5 @@
 -- `states`: after i turns the number is the greatest state that the first i records name.
-use Prim.Native.Nat.{◌-◌, max}
+use Prim.Native.Nat.{max}
 use native.Mathlib.Omega.{arith}
 use mathlib.Core.Path.{◌≡◌, sym, ap₂, ◌∙◌}
 use Rattle.walks.proofs.Sums.{greatest_none, greatest_step}

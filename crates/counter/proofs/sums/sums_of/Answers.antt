@@ -1,5 +1,5 @@
 -- `sums_of`: after i turns the list has the sum of each state over the first i records, and a turn changes that of the record's state alone.
-use Prim.Native.Nat.{◌-◌, ◌≤◌, ◌<◌}
+use Prim.Native.Nat.{◌≤◌, ◌<◌}
 use native.Mathlib.Omega.{arith}
 use mathlib.Core.Path.{◌∙◌}
 use Rattle.model.specs.Format.{most_states}
@@ -13,7 +13,7 @@ loop-i-init c = (omega arith, c.moves-i-end.ensures, sums_none _)
 pub overflow_add-sums : goal.overflow_add-sums
 overflow_add-sums c =
     let own-state : c.from-u.result < most_states =
-        let turn = c in omega (arith, c.from-u.ensures.0, (turn.requires.right turn.loop-i.i (omega arith)).from_range) in
+    let turn = c in omega (arith, c.from-u.ensures.0, (turn.requires.right turn.loop-i.i (omega arith)).from_range) in
     let turn = c in
     let right = turn.requires in
     let few : turn.loop-i.i ≤ moves_in turn.args.file.now = omega arith in
@@ -22,7 +22,7 @@ overflow_add-sums c =
 pub loop-i-preserved : goal.loop-i-preserved
 loop-i-preserved c =
     let own-state : c.from-u.result < most_states =
-        let turn = c in omega (arith, c.from-u.ensures.0, (turn.requires.right turn.loop-i.i (omega arith)).from_range) in
+    let turn = c in omega (arith, c.from-u.ensures.0, (turn.requires.right turn.loop-i.i (omega arith)).from_range) in
     let inv = c.loop-i.invariant in
     (omega arith, inv.1, sums_more _ _ _ inv.2 _ _ c.from-u.ensures.0 own-state c.weight.ensures.0)
 

@@ -1,9 +1,9 @@
 -- `f`: the sum so far is that over the row's records passed, and the row's records are those from its start to the next row's.
-use Prim.Native.Nat.{◌+◌, ◌*◌, ◌^◌, ◌≤◌, ◌-◌}
+use Prim.Native.Nat.{◌+◌, ◌*◌, ◌^◌, ◌≤◌}
 use native.Mathlib.Nat.{zero-add}
 use native.Mathlib.Omega.{arith}
 use mathlib.Core.Path.{◌∙◌}
-use Rattle.ppda.specs.Equations.{through, f}
+use Rattle.ppda.specs.Equations.{f}
 use Rattle.model.proofs.Accepted.{sized_fits}
 use Rattle.rows.proofs.Sums.{row_begin, row_more, row_end, row_within}
 use Rattle.equations.proofs.Limits.{through_most}

@@ -20,12 +20,11 @@ value-requires-clause-inside c = let pre = c.requires in
 
 pub returns-then-l-eq1 : goal.returns-then-l-eq1
 returns-then-l-eq1 c =
-    let value-most : c.value.result ≤ most_chance = rw c.value.ensures.0 (upper_most c.requires.sizes.1 _ _ _ _ _) in
-    (
-  rw (pushes_one _ _ _ (sym c.pushes-l.ensures.0 ∙ c.if-l-eq1.true))
-      (rw (c.value.ensures.0, c.top-y.ensures.0, c.target-r.ensures.0)),
-  omega (arith, value-most),
-)
+    let value-most : c.value.result ≤ most_chance = rw c.value.ensures.0 (upper_most c.requires.sizes.1 _ _ _ _ _) in (
+      rw (pushes_one _ _ _ (sym c.pushes-l.ensures.0 ∙ c.if-l-eq1.true))
+          (rw (c.value.ensures.0, c.top-y.ensures.0, c.target-r.ensures.0)),
+      omega (arith, value-most),
+    )
 
 pub through_two-requires-clause-sizes : goal.through_two-requires-clause-sizes
 through_two-requires-clause-sizes c = let pre = c.requires in

@@ -1,8 +1,8 @@
 -- `mean_side`: the sum so far is one step and that over the row's records passed, and the row's records are those from its start to the
 -- next row's.
-use Prim.Native.Nat.{◌+◌, ◌*◌, ◌^◌, ◌≤◌, ◌-◌}
+use Prim.Native.Nat.{◌+◌, ◌*◌, ◌^◌, ◌≤◌}
 use native.Mathlib.Omega.{arith}
-use Rattle.ppda.specs.Equations.{steps_through, mean_side}
+use Rattle.ppda.specs.Equations.{mean_side}
 use Rattle.model.proofs.Accepted.{sized_fits}
 use Rattle.rows.proofs.Sums.{row_begin, row_more, row_end, row_within}
 use Rattle.equations.proofs.Limits.{steps_most}

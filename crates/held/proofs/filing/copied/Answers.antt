@@ -1,5 +1,4 @@
 -- `copied`: after i turns the first i bytes of the file are in place, and the others are 0.
-use Prim.Native.Nat.{◌-◌}
 use native.Mathlib.Omega.{arith}
 use borrow.Author.Rules.{rules}
 use Rattle.model.specs.Format.{most_bytes}

@@ -9,13 +9,13 @@ use Rattle.held.proofs.filing.model_of.Goals as goal
 pub overflow_cast-s : goal.overflow_cast-s
 overflow_cast-s c =
     let few : let n = c.sizes_of-n.result in Fits n.states n.symbols =
-        sized_fits (sized_by c.requires c.sizes_of-n.ensures.0) in
+    sized_fits (sized_by c.requires c.sizes_of-n.ensures.0) in
     omega (arith, few.few_states)
 
 pub overflow_cast-g : goal.overflow_cast-g
 overflow_cast-g c =
     let few : let n = c.sizes_of-n.result in Fits n.states n.symbols =
-        sized_fits (sized_by c.requires c.sizes_of-n.ensures.0) in
+    sized_fits (sized_by c.requires c.sizes_of-n.ensures.0) in
     omega (arith, few.few_symbols)
 
 pub copied-requires : goal.copied-requires

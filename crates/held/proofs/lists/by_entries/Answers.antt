@@ -1,5 +1,4 @@
 -- `by_entries`: each turn puts the mark of one more entry, whose row and exit are the quotient and the rest of its number by s.
-use Prim.Native.Nat.{◌-◌}
 use native.Mathlib.Omega.{arith}
 use mathlib.Core.Path.{refl}
 use Rattle.model.specs.Format.{most_entries}

@@ -13,17 +13,17 @@ returns-in-Refused c = none_live _ most_entries refl (sym c.check-found.ensures 
 pub find_starts-requires : goal.find_starts-requires
 find_starts-requires c =
     let sized : let n = c.sizes_of-n.result in Sized c.args.model.now n.states n.symbols =
-        sized_by (sym c.check-found.ensures ∙ c.in_default.is) c.sizes_of-n.ensures.0 in
+    sized_by (sym c.check-found.ensures ∙ c.in_default.is) c.sizes_of-n.ensures.0 in
     (sized, refl)
 
 pub by_entries-requires : goal.by_entries-requires
 by_entries-requires c =
     let sized : let n = c.sizes_of-n.result in Sized c.args.model.now n.states n.symbols =
-        sized_by (sym c.check-found.ensures ∙ c.in_default.is) c.sizes_of-n.ensures.0 in
+    sized_by (sym c.check-found.ensures ∙ c.in_default.is) c.sizes_of-n.ensures.0 in
     sized_fits sized
 
 pub returns : goal.returns
 returns c =
     let sized : let n = c.sizes_of-n.result in Sized c.args.model.now n.states n.symbols =
-        sized_by (sym c.check-found.ensures ∙ c.in_default.is) c.sizes_of-n.ensures.0 in
+    sized_by (sym c.check-found.ensures ∙ c.in_default.is) c.sizes_of-n.ensures.0 in
     live_of sized c.find_marks.ensures c.by_entries.ensures

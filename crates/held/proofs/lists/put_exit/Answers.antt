@@ -1,5 +1,5 @@
 -- `put_exit`: after each turn the values of one row more stand behind those of the exits before q, at the place of this row and exit.
-use Prim.Native.Nat.{◌-◌, ◌<◌}
+use Prim.Native.Nat.{◌<◌}
 use native.Mathlib.Omega.{arith}
 use mathlib.Core.Path.{ap, ◌∙◌}
 use Rattle.walks.specs.Order.{rows_in}

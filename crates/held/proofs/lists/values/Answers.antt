@@ -1,5 +1,4 @@
 -- `values`: after e turns the list has the values of the first e records, and 0 from there on.
-use Prim.Native.Nat.{◌-◌}
 use borrow.Author.Rules.{rules}
 use Rattle.held.proofs.Listed.{values_none}
 use Rattle.held.proofs.lists.values.Goals as goal

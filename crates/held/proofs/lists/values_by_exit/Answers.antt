@@ -1,5 +1,4 @@
 -- `values_by_exit`: after q turns the values of the entries with the first q exits stand in their places, and 0 from there on.
-use Prim.Native.Nat.{◌-◌}
 use native.Mathlib.Omega.{arith}
 use mathlib.Core.Path.{refl}
 use Rattle.held.proofs.Listed.{padded_none, padded_end}

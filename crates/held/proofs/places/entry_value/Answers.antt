@@ -11,11 +11,11 @@ returns-then-not-has_entry c = sym (no_entry _ _ _ _ _ _ (sym c.has_entry.ensure
 pub entry-requires : goal.entry-requires
 entry-requires c =
     let there : let args = c.args in has_entry args.n.states args.n.symbols args.p args.z args.q ≡ true =
-        sym c.has_entry.ensures ∙ c.if-not-has_entry.false in
+    sym c.has_entry.ensures ∙ c.if-not-has_entry.false in
     let (row, hq) = (entry_exactly _ _ _ _ _).0 there in (c.requires, row.0, row.1, hq)
 
 pub returns : goal.returns
 returns c =
     let there : let args = c.args in has_entry args.n.states args.n.symbols args.p args.z args.q ≡ true =
-        sym c.has_entry.ensures ∙ c.if-not-has_entry.false in
+    sym c.has_entry.ensures ∙ c.if-not-has_entry.false in
     c.number_at.ensures ∙ rw c.entry.ensures.0 (sym (entry_there _ _ _ _ _ _ there))

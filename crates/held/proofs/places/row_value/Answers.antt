@@ -11,11 +11,11 @@ returns-then-not-has_row c = sym (no_row _ _ _ _ _ (sym c.has_row.ensures ∙ c.
 pub row-requires : goal.row-requires
 row-requires c =
     let there : let args = c.args in has_row args.n.states args.n.symbols args.p args.z ≡ true =
-        sym c.has_row.ensures ∙ c.if-not-has_row.false in
+    sym c.has_row.ensures ∙ c.if-not-has_row.false in
     let (hp, hz) = (row_exactly _ _ _ _).0 there in (c.requires, hp, hz)
 
 pub returns : goal.returns
 returns c =
     let there : let args = c.args in has_row args.n.states args.n.symbols args.p args.z ≡ true =
-        sym c.has_row.ensures ∙ c.if-not-has_row.false in
+    sym c.has_row.ensures ∙ c.if-not-has_row.false in
     c.number_at.ensures ∙ rw c.row.ensures.0 (sym (row_there _ _ _ _ _ there))

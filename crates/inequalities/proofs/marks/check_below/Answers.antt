@@ -1,5 +1,4 @@
 -- `check_below`: the loop returns at the first lower above its upper, after every lower before it has passed.
-use Prim.Native.Nat.{◌-◌}
 use native.Mathlib.Omega.{arith}
 use mathlib.Core.Path.{sym, ◌∙◌}
 use borrow.Author.Rules.{rules}

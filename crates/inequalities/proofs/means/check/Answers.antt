@@ -1,5 +1,4 @@
 -- `check`: the loop returns at the first row that is refused, after every row before it has passed.
-use Prim.Native.Nat.{◌-◌}
 use native.Mathlib.Omega.{arith}
 use mathlib.Core.Path.{◌≡◌, sym, ap, ◌∙◌}
 use borrow.Author.Rules.{rules}
@@ -23,9 +22,9 @@ loop-k-init c = (search rules, c.rows-rows.ensures.0, c.rows-rows.ensures.1, eac
 pub returns-in-Refused : goal.returns-in-Refused
 returns-in-Refused c =
     let walked : let args = c.args in each (rows_in args.n.states args.n.symbols) (row_test args.model.now args.n args.uppers.now args.means.now args.from) ≡ mean_block args.model.now args.n args.uppers.now args.means.now args.from =
-        sym (rows_by_number c.args.n.states c.args.n.symbols _) in
+    sym (rows_by_number c.args.n.states c.args.n.symbols _) in
     let found : let args = c.args in c.check_mean-found.result ≡ first (row_test args.model.now args.n args.uppers.now args.means.now args.from c.loop-k.k) =
-        let args = c.args in mean_found args.model.now args.n.states args.n.symbols args.uppers.now args.means.now args.from _ c.value_at.ensures.0 c.mean_side-y.ensures.0 c.check_mean-found.ensures in
+    let args = c.args in mean_found args.model.now args.n.states args.n.symbols args.uppers.now args.means.now args.from _ c.value_at.ensures.0 c.mean_side-y.ensures.0 c.check_mean-found.ensures in
     each_refused _ _ _ _ (omega arith) c.loop-k.invariant.3
     found c.in-Refused.is
     ∙ ap first walked
@@ -33,16 +32,15 @@ returns-in-Refused c =
 pub loop-k-preserved : goal.loop-k-preserved
 loop-k-preserved c =
     let found : let args = c.args in c.check_mean-found.result ≡ first (row_test args.model.now args.n args.uppers.now args.means.now args.from c.loop-k.k) =
-        let args = c.args in mean_found args.model.now args.n.states args.n.symbols args.uppers.now args.means.now args.from _ c.value_at.ensures.0 c.mean_side-y.ensures.0 c.check_mean-found.ensures in
-    (
-  omega arith,
-  search rules,
-  search rules,
-  each_more _ _ c.loop-k.invariant.3 (sym found ∙ c.in_default.is),
-)
+    let args = c.args in mean_found args.model.now args.n.states args.n.symbols args.uppers.now args.means.now args.from _ c.value_at.ensures.0 c.mean_side-y.ensures.0 c.check_mean-found.ensures in (
+      omega arith,
+      search rules,
+      search rules,
+      each_more _ _ c.loop-k.invariant.3 (sym found ∙ c.in_default.is),
+    )
 
 pub returns : goal.returns
 returns c =
     let walked : let args = c.args in each (rows_in args.n.states args.n.symbols) (row_test args.model.now args.n args.uppers.now args.means.now args.from) ≡ mean_block args.model.now args.n args.uppers.now args.means.now args.from =
-        sym (rows_by_number c.args.n.states c.args.n.symbols _) in
+    sym (rows_by_number c.args.n.states c.args.n.symbols _) in
     sym (each_end _ _ _ c.loop-k.invariant.3 (omega arith)) ∙ ap first walked

@@ -1,5 +1,4 @@
 -- `check`: the loop returns at the first row that is refused, after every row before it has passed.
-use Prim.Native.Nat.{◌-◌}
 use native.Mathlib.Omega.{arith}
 use mathlib.Core.Path.{◌≡◌, sym, ap, ◌∙◌}
 use borrow.Author.Rules.{rules}
@@ -21,7 +20,7 @@ loop-k-init c = (search rules, c.rows-rows.ensures.0, c.rows-rows.ensures.1, eac
 pub returns-in-Refused : goal.returns-in-Refused
 returns-in-Refused c =
     let walked : let args = c.args in each (rows_in args.n.states args.n.symbols) (side_row args.side args.model.now args.n args.live.now args.block.now) ≡ side_block args.side args.model.now args.n args.live.now args.block.now =
-        sym (entries_by_row c.args.n.states c.args.n.symbols _) in
+    sym (entries_by_row c.args.n.states c.args.n.symbols _) in
     each_refused _ _ _ _ (omega arith) c.loop-k.invariant.3
     c.check_row-found.ensures c.in-Refused.is
     ∙ ap first walked
@@ -37,5 +36,5 @@ loop-k-preserved c = (
 pub returns : goal.returns
 returns c =
     let walked : let args = c.args in each (rows_in args.n.states args.n.symbols) (side_row args.side args.model.now args.n args.live.now args.block.now) ≡ side_block args.side args.model.now args.n args.live.now args.block.now =
-        sym (entries_by_row c.args.n.states c.args.n.symbols _) in
+    sym (entries_by_row c.args.n.states c.args.n.symbols _) in
     sym (each_end _ _ _ c.loop-k.invariant.3 (omega arith)) ∙ ap first walked

@@ -1,5 +1,5 @@
 -- `check_row`: the loop returns at the first entry that is refused, after every entry before it has passed.
-use Prim.Native.Nat.{◌/◌, ◌%◌, ◌-◌}
+use Prim.Native.Nat.{◌/◌, ◌%◌}
 use native.Mathlib.Omega.{arith}
 use mathlib.Core.Path.{◌≡◌, sym, ◌∙◌}
 use borrow.Author.Rules.{rules}
@@ -28,14 +28,13 @@ mark-requires c = let pre = c.requires in
 pub returns-in-Refused : goal.returns-in-Refused
 returns-in-Refused c =
     let found : let args = c.args in c.check_side-found.result ≡ first (side_at args.side args.model.now args.n.states args.n.symbols args.live.now args.block.now (args.row / args.n.symbols) (args.row % args.n.symbols) c.loop-q.q) =
-        let args = c.args in side_found args.n.states args.n.symbols args.live.now args.block.now args.row _ c.is_live-live.ensures c.mark.ensures.0 c.value_at.ensures.0 c.entry_in-e.ensures.0 args.side args.model.now c.f-y.ensures.0 c.first_record-from.ensures.0 c.check_side-found.ensures in
+    let args = c.args in side_found args.n.states args.n.symbols args.live.now args.block.now args.row _ c.is_live-live.ensures c.mark.ensures.0 c.value_at.ensures.0 c.entry_in-e.ensures.0 args.side args.model.now c.f-y.ensures.0 c.first_record-from.ensures.0 c.check_side-found.ensures in
     each_refused _ _ _ _ c.loop-q-test.true c.loop-q.invariant.1 found c.in-Refused.is
 
 pub loop-q-preserved : goal.loop-q-preserved
 loop-q-preserved c =
     let found : let args = c.args in c.check_side-found.result ≡ first (side_at args.side args.model.now args.n.states args.n.symbols args.live.now args.block.now (args.row / args.n.symbols) (args.row % args.n.symbols) c.loop-q.q) =
-        let args = c.args in side_found args.n.states args.n.symbols args.live.now args.block.now args.row _ c.is_live-live.ensures c.mark.ensures.0 c.value_at.ensures.0 c.entry_in-e.ensures.0 args.side args.model.now c.f-y.ensures.0 c.first_record-from.ensures.0 c.check_side-found.ensures in
-    (
-  omega arith,
-  each_more _ _ c.loop-q.invariant.1 (sym found ∙ c.in_default.is),
-)
+    let args = c.args in side_found args.n.states args.n.symbols args.live.now args.block.now args.row _ c.is_live-live.ensures c.mark.ensures.0 c.value_at.ensures.0 c.entry_in-e.ensures.0 args.side args.model.now c.f-y.ensures.0 c.first_record-from.ensures.0 c.check_side-found.ensures in (
+      omega arith,
+      each_more _ _ c.loop-q.invariant.1 (sym found ∙ c.in_default.is),
+    )

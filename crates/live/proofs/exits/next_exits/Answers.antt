@@ -1,5 +1,5 @@
 -- `next_exits`: the exits so far are those that the row's records passed give.
-use Prim.Native.Nat.{◌+◌, ◌-◌}
+use Prim.Native.Nat.{◌+◌}
 use native.Mathlib.Omega.{arith}
 use Rattle.model.proofs.Accepted.{sized_fits}
 use Rattle.live.proofs.Bits.{exits_none, exits_more, exits_end}

@@ -1,5 +1,4 @@
 -- `round`: each turn puts the next exits of one more row.
-use Prim.Native.Nat.{◌-◌}
 use native.Mathlib.Omega.{arith}
 use Rattle.model.proofs.Accepted.{sized_fits}
 use Rattle.live.proofs.Marks.{round_more}

@@ -1,5 +1,4 @@
 -- `sizes_of`: after i turns the sizes are those of the first i records.
-use Prim.Native.Nat.{◌-◌}
 use native.Mathlib.Omega.{arith}
 use mathlib.Core.Path.{◌≡◌}
 use borrow.Author.Rules.{rules}

@@ -11,5 +11,5 @@ use Rattle.questions.proofs.index.find_in.Goals as goal
 pub find_starts-requires : goal.find_starts-requires
 find_starts-requires c =
     let accepted : is_refused (model_verdict (take c.args.count c.args.bytes.now)) ≡ false =
-        sym (ap is_refused c.check.ensures) ∙ sym c.is_refused.ensures ∙ c.if-is_refused.false in
+    sym (ap is_refused c.check.ensures) ∙ sym c.is_refused.ensures ∙ c.if-is_refused.false in
     (sized_by (not_refused _ accepted) c.sizes_of-sizes.ensures.0, c.requires.1)

@@ -18,7 +18,7 @@ returns-then-not-has_entry-few_steps c = short_is_none c.requires.1 _ _ _ _ (sym
 pub row-requires : goal.row-requires
 row-requires c =
     let both : let start = c.args in (((start.asked.p < start.n.states) × (start.asked.z < start.n.symbols)) × (start.asked.q < start.n.states)) × (start.asked.steps ≤ most_steps) =
-        let e = (and-eq-true_iff c.has_entry.result c.few_steps.result).0 (c.if-not-has_entry-few_steps.false) in ((entry_exactly _ _ _ _ _).0 (sym c.has_entry.ensures ∙ e.0), few_exactly _ (sym c.few_steps.ensures ∙ e.1)) in
+    let e = (and-eq-true_iff c.has_entry.result c.few_steps.result).0 (c.if-not-has_entry-few_steps.false) in ((entry_exactly _ _ _ _ _).0 (sym c.has_entry.ensures ∙ e.0), few_exactly _ (sym c.few_steps.ensures ∙ e.1)) in
     let ((p, z), q) = both.0 in
     let index = c.requires.1 in
     (fits_narrow (sized_fits (index.indexed (is_model_lem index p)).sized), omega arith, omega arith)
@@ -26,7 +26,7 @@ row-requires c =
 pub chance-requires-clause-inside : goal.chance-requires-clause-inside
 chance-requires-clause-inside c =
     let both : let start = c.args in (((start.asked.p < start.n.states) × (start.asked.z < start.n.symbols)) × (start.asked.q < start.n.states)) × (start.asked.steps ≤ most_steps) =
-        let e = (and-eq-true_iff c.has_entry.result c.few_steps.result).0 (c.if-not-has_entry-few_steps.false) in ((entry_exactly _ _ _ _ _).0 (sym c.has_entry.ensures ∙ e.0), few_exactly _ (sym c.few_steps.ensures ∙ e.1)) in
+    let e = (and-eq-true_iff c.has_entry.result c.few_steps.result).0 (c.if-not-has_entry-few_steps.false) in ((entry_exactly _ _ _ _ _).0 (sym c.has_entry.ensures ∙ e.0), few_exactly _ (sym c.few_steps.ensures ∙ e.1)) in
     let it = both in
     let index = c.requires.1 in
     (it.1, c.row.ensures.1, it.0.1)
@@ -34,7 +34,7 @@ chance-requires-clause-inside c =
 pub returns : goal.returns
 returns c =
     let both : let start = c.args in (((start.asked.p < start.n.states) × (start.asked.z < start.n.symbols)) × (start.asked.q < start.n.states)) × (start.asked.steps ≤ most_steps) =
-        let e = (and-eq-true_iff c.has_entry.result c.few_steps.result).0 (c.if-not-has_entry-few_steps.false) in ((entry_exactly _ _ _ _ _).0 (sym c.has_entry.ensures ∙ e.0), few_exactly _ (sym c.few_steps.ensures ∙ e.1)) in
+    let e = (and-eq-true_iff c.has_entry.result c.few_steps.result).0 (c.if-not-has_entry-few_steps.false) in ((entry_exactly _ _ _ _ _).0 (sym c.has_entry.ensures ∙ e.0), few_exactly _ (sym c.few_steps.ensures ∙ e.1)) in
     let it = both.0 in
     c.chance.ensures.0
     ∙ at_row _ _ _ _ _ _ it.0.1 c.row.ensures.0

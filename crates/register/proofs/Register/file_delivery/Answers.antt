@@ -26,49 +26,49 @@ returns-then-is_refused c = let tested = c in
 pub slice_bounds-bytes-end : goal.slice_bounds-bytes-end
 slice_bounds-bytes-end c =
     let not-turned-away : is_refused c.delivery_outcome-found.result ≡ false =
-        sym c.is_refused.ensures ∙ c.if-is_refused.false in
+    sym c.is_refused.ensures ∙ c.if-is_refused.false in
     let passed : let args = c.args in delivery_outcome args.self.model args.file.now ≡ Accepted =
-        sym c.delivery_outcome-found.ensures ∙ not_refused _ not-turned-away in
+    sym c.delivery_outcome-found.ensures ∙ not_refused _ not-turned-away in
     let bytes-size : length c.args.self.model.bytes ≡ most_bytes =
-        c.well_formed.0.1.1.0.1.1.0.1.0.1 in
+    c.well_formed.0.1.1.0.1.1.0.1.0.1 in
     let within : let model = c.args.self.model in model.length ≤ length model.bytes =
-        omega (arith, held_fits _ (delivery_passed _ _ passed).0, bytes-size) in
+    omega (arith, held_fits _ (delivery_passed _ _ passed).0, bytes-size) in
     within
 
 pub slice_bounds-model-end : goal.slice_bounds-model-end
 slice_bounds-model-end c =
     let not-turned-away : is_refused c.delivery_outcome-found.result ≡ false =
-        sym c.is_refused.ensures ∙ c.if-is_refused.false in
+    sym c.is_refused.ensures ∙ c.if-is_refused.false in
     let passed : let args = c.args in delivery_outcome args.self.model args.file.now ≡ Accepted =
-        sym c.delivery_outcome-found.ensures ∙ not_refused _ not-turned-away in
+    sym c.delivery_outcome-found.ensures ∙ not_refused _ not-turned-away in
     let bytes-size : length c.args.self.model.bytes ≡ most_bytes =
-        c.well_formed.0.1.1.0.1.1.0.1.0.1 in
+    c.well_formed.0.1.1.0.1.1.0.1.0.1 in
     let within : let model = c.args.self.model in model.length ≤ length model.bytes =
-        omega (arith, held_fits _ (delivery_passed _ _ passed).0, bytes-size) in
+    omega (arith, held_fits _ (delivery_passed _ _ passed).0, bytes-size) in
     sym (length-take-le _ _ within)
 
 pub shape_for-shape-requires : goal.shape_for-shape-requires
 shape_for-shape-requires c =
     let not-turned-away : is_refused c.delivery_outcome-found.result ≡ false =
-        sym c.is_refused.ensures ∙ c.if-is_refused.false in
+    sym c.is_refused.ensures ∙ c.if-is_refused.false in
     let passed : let args = c.args in delivery_outcome args.self.model args.file.now ≡ Accepted =
-        sym c.delivery_outcome-found.ensures ∙ not_refused _ not-turned-away in
+    sym c.delivery_outcome-found.ensures ∙ not_refused _ not-turned-away in
     let accepted : let args = c.args in verdict (take args.self.model.length args.self.model.bytes) args.file.now ≡ Accepted =
-        (delivery_passed _ _ passed).1 in
+    (delivery_passed _ _ passed).1 in
     let sized : let args = c.args in let n = c.sizes_of-n.result in Sized (take args.self.model.length args.self.model.bytes) n.states n.symbols =
-        sized_by_verdict _ accepted c.sizes_of-n.ensures.0 in
+    sized_by_verdict _ accepted c.sizes_of-n.ensures.0 in
     sized_fits sized
 
 pub numbers_of-numbers-requires : goal.numbers_of-numbers-requires
 numbers_of-numbers-requires c =
     let not-turned-away : is_refused c.delivery_outcome-found.result ≡ false =
-        sym c.is_refused.ensures ∙ c.if-is_refused.false in
+    sym c.is_refused.ensures ∙ c.if-is_refused.false in
     let passed : let args = c.args in delivery_outcome args.self.model args.file.now ≡ Accepted =
-        sym c.delivery_outcome-found.ensures ∙ not_refused _ not-turned-away in
+    sym c.delivery_outcome-found.ensures ∙ not_refused _ not-turned-away in
     let accepted : let args = c.args in verdict (take args.self.model.length args.self.model.bytes) args.file.now ≡ Accepted =
-        (delivery_passed _ _ passed).1 in
+    (delivery_passed _ _ passed).1 in
     let sized : let args = c.args in let n = c.sizes_of-n.result in Sized (take args.self.model.length args.self.model.bytes) n.states n.symbols =
-        sized_by_verdict _ accepted c.sizes_of-n.ensures.0 in
+    sized_by_verdict _ accepted c.sizes_of-n.ensures.0 in
     let sizes = c in
     let is = accepted in
     record {
@@ -79,19 +79,19 @@ numbers_of-numbers-requires c =
 pub mark_by-mark-requires : goal.mark_by-mark-requires
 mark_by-mark-requires c =
     let not-turned-away : is_refused c.delivery_outcome-found.result ≡ false =
-        sym c.is_refused.ensures ∙ c.if-is_refused.false in
+    sym c.is_refused.ensures ∙ c.if-is_refused.false in
     let passed : let args = c.args in delivery_outcome args.self.model args.file.now ≡ Accepted =
-        sym c.delivery_outcome-found.ensures ∙ not_refused _ not-turned-away in
+    sym c.delivery_outcome-found.ensures ∙ not_refused _ not-turned-away in
     let accepted : let args = c.args in verdict (take args.self.model.length args.self.model.bytes) args.file.now ≡ Accepted =
-        (delivery_passed _ _ passed).1 in
+    (delivery_passed _ _ passed).1 in
     let sized : let args = c.args in let n = c.sizes_of-n.result in Sized (take args.self.model.length args.self.model.bytes) n.states n.symbols =
-        sized_by_verdict _ accepted c.sizes_of-n.ensures.0 in
+    sized_by_verdict _ accepted c.sizes_of-n.ensures.0 in
     sized_fits sized
 
 pub returns : goal.returns
 returns c =
     let not-turned-away : is_refused c.delivery_outcome-found.result ≡ false =
-        sym c.is_refused.ensures ∙ c.if-is_refused.false in
+    sym c.is_refused.ensures ∙ c.if-is_refused.false in
     let numbers = c in
     let shape = numbers in
     let sizes = shape in

@@ -1,5 +1,5 @@
 -- `least_of_row`: the least value carried is that of the shares passed.
-use Prim.Native.Nat.{◌/◌, ◌%◌, ◌-◌, min}
+use Prim.Native.Nat.{◌/◌, ◌%◌, min}
 use native.Mathlib.Omega.{arith}
 use mathlib.Core.Path.{◌≡◌}
 use borrow.Author.Rules.{rules}
@@ -24,7 +24,7 @@ mark-requires c = let pre = c.requires in
 pub loop-q-preserved : goal.loop-q-preserved
 loop-q-preserved c =
     let found : let args = c.args in c.share_at-share.result ≡ share_of args.model.now args.n.states args.n.symbols args.live.now args.uppers.now (args.row / args.n.symbols) (args.row % args.n.symbols) c.loop-q.q =
-        let args = c.args in share_found args.model.now args.n.states args.n.symbols args.live.now args.uppers.now args.row _ c.is_live.ensures c.mark.ensures.0 c.value_at.ensures.0 c.entry_in-e.ensures.0 c.f-y.ensures.0 c.share_at-share.ensures in
+    let args = c.args in share_found args.model.now args.n.states args.n.symbols args.live.now args.uppers.now args.row _ c.is_live.ensures c.mark.ensures.0 c.value_at.ensures.0 c.entry_in-e.ensures.0 c.f-y.ensures.0 c.share_at-share.ensures in
     let kept : c.if-share-least.least ≡ min c.loop-q.least c.share_at-share.result =
-        elim c.if-share-least.branch [ then-share-least w ↦ omega arith | else-share-least w ↦ omega arith ] in
+    elim c.if-share-least.branch [ then-share-least w ↦ omega arith | else-share-least w ↦ omega arith ] in
     (omega arith, least_more _ _ _ c.loop-q.invariant.1 found kept)

@@ -1,5 +1,4 @@
 -- `margin_of`: the least value carried is that of the rows passed, and all rows are all entries.
-use Prim.Native.Nat.{◌-◌}
 use native.Mathlib.Omega.{arith}
 use mathlib.Core.Path.{refl}
 use borrow.Author.Rules.{rules}

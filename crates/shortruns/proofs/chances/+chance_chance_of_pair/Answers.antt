@@ -7,7 +7,6 @@ use native.Mathlib.Omega.{arith}
 use mathlib.Core.List.{[], ◌∷◌}
 use mathlib.Core.Path.{◌≡◌, sym, ap, ap₂, ◌∙◌}
 use lib.Dec.{eqb}
-use borrow.Fn.PlainCycle.{is}
 use Rattle.walks.specs.Sums.{bit}
 use Rattle.walks.specs.Order.{row_at}
 use Rattle.ppda.proofs.Pairs.{exactly, exactly_is_difference}
@@ -15,22 +14,8 @@ use Rattle.model.specs.Records.{target, pushes, top}
 use Rattle.model.specs.Rules.{rules_of}
 use Rattle.model.proofs.Records.{fits_narrow}
 use Rattle.model.proofs.Accepted.{sized_fits, record_names}
-use Rattle.model.proofs.record.pushes.Reads as pushes-reads
-use Rattle.model.proofs.record.target.Reads as target-reads
-use Rattle.model.proofs.record.top.Reads as top-reads
-use Rattle.model.proofs.record.under.Reads as under-reads
-use Rattle.model.proofs.record.weight.Reads as weight-reads
-use Rattle.model.proofs.sizes.Sizes.row.Reads as row_reads
 use Rattle.rows.proofs.Sums.{row_begin, row_record, row_more, row_skip, row_end, states_more, states_end}
 use Rattle.shortruns.proofs.Laws.{power_most, stack_most, no_steps, one_by_records, at_row, row_limit, pushes_too_many, pushes_pair, pushes_single, pushes_none, pushes_nothing_left, pair_begin, pair_split, pair_end, pair_limit}
-use Rattle.shortruns.proofs.chances.certain.Reads as certain-reads
-use Rattle.shortruns.proofs.chances.returned.Reads as returned-reads
-use Rattle.shortruns.proofs.chances.chance.Reads as chance
-use Rattle.shortruns.proofs.chances.chance.Kinds as chance-kinds
-use Rattle.shortruns.proofs.chances.chance_of_pair.Reads as chance_of_pair
-use Rattle.shortruns.proofs.chances.chance_of_pair.Kinds as chance-of-pair-kinds
-use Rattle.shortruns.proofs.chances.+chance_chance_of_pair.Lts-chance as chance-lts
-use Rattle.shortruns.proofs.chances.+chance_chance_of_pair.Lts-chance_of_pair as chance-of-pair-lts
 use Rattle.shortruns.proofs.chances.+chance_chance_of_pair.Goals as goal
 
 pub chance-returns-then-steps-eq0 : goal.chance-returns-then-steps-eq0
@@ -62,8 +47,11 @@ chance-loop-i-preserved-then-left-l t c = let inside = row_record c.loop-i.invar
     (pushes_too_many _ _ _ _ (c.requires.files.sized.file.records.right _ inside).pushes_range (rw c.pushes-l.ensures.0 at c.if-left-l.true))
 
 pub chance-overflow_add-sum : goal.chance-overflow_add-sum
-chance-overflow_add-sum t c = omega (arith, row_limit _ _ ((row_more c.loop-i.invariant c.loop-i-test.true c.weight-k.ensures.0
-    (c.chance_of_pair.ensures.0 ∙ sym (pushes_pair _ _ _ _ (sym c.pushes-l.ensures.0 ∙ c.if-l-eq2.true))))) (omega arith))
+chance-overflow_add-sum t c = omega (
+  arith,
+  row_limit _ _ ((row_more c.loop-i.invariant c.loop-i-test.true c.weight-k.ensures.0
+      (c.chance_of_pair.ensures.0 ∙ sym (pushes_pair _ _ _ _ (sym c.pushes-l.ensures.0 ∙ c.if-l-eq2.true))))) (omega arith),
+)
 
 pub chance-loop-i-preserved-then-l-eq2 : goal.chance-loop-i-preserved-then-l-eq2
 chance-loop-i-preserved-then-l-eq2 t c = row_more c.loop-i.invariant c.loop-i-test.true c.weight-k.ensures.0
@@ -75,18 +63,24 @@ chance-row-requires t c = let sized = c.requires.files.sized in
     (fits_narrow (sized_fits sized), omega (arith, names.0, c.target-r.ensures.0), omega (arith, names.1, c.top.ensures.0))
 
 pub chance-overflow_mul-sum-then-l-eq1 : goal.chance-overflow_mul-sum-then-l-eq1
-chance-overflow_mul-sum-then-l-eq1 t c = omega (arith, row_limit _ _ ((let names = record_names c.requires.files.sized (row_record c.loop-i.invariant c.loop-i-test.true) in
-    row_more c.loop-i.invariant c.loop-i-test.true c.weight-k.ensures.0
-    (c.chance.ensures.0
-    ∙ at_row _ _ _ _ _ _ names.1 (c.row.ensures.0 ∙ ap₂ (λ p z. p * c.args.n.symbols + z) c.target-r.ensures.0 c.top.ensures.0)
-    ∙ sym (pushes_single _ _ _ _ (sym c.pushes-l.ensures.0 ∙ c.if-l-eq1.true))))) (omega arith))
+chance-overflow_mul-sum-then-l-eq1 t c = omega (
+  arith,
+  row_limit _ _ ((let names = record_names c.requires.files.sized (row_record c.loop-i.invariant c.loop-i-test.true) in
+      row_more c.loop-i.invariant c.loop-i-test.true c.weight-k.ensures.0
+      (c.chance.ensures.0
+      ∙ at_row _ _ _ _ _ _ names.1 (c.row.ensures.0 ∙ ap₂ (λ p z. p * c.args.n.symbols + z) c.target-r.ensures.0 c.top.ensures.0)
+      ∙ sym (pushes_single _ _ _ _ (sym c.pushes-l.ensures.0 ∙ c.if-l-eq1.true))))) (omega arith),
+)
 
 pub chance-overflow_add-sum-then-l-eq1 : goal.chance-overflow_add-sum-then-l-eq1
-chance-overflow_add-sum-then-l-eq1 t c = omega (arith, row_limit _ _ ((let names = record_names c.requires.files.sized (row_record c.loop-i.invariant c.loop-i-test.true) in
-    row_more c.loop-i.invariant c.loop-i-test.true c.weight-k.ensures.0
-    (c.chance.ensures.0
-    ∙ at_row _ _ _ _ _ _ names.1 (c.row.ensures.0 ∙ ap₂ (λ p z. p * c.args.n.symbols + z) c.target-r.ensures.0 c.top.ensures.0)
-    ∙ sym (pushes_single _ _ _ _ (sym c.pushes-l.ensures.0 ∙ c.if-l-eq1.true))))) (omega arith))
+chance-overflow_add-sum-then-l-eq1 t c = omega (
+  arith,
+  row_limit _ _ ((let names = record_names c.requires.files.sized (row_record c.loop-i.invariant c.loop-i-test.true) in
+      row_more c.loop-i.invariant c.loop-i-test.true c.weight-k.ensures.0
+      (c.chance.ensures.0
+      ∙ at_row _ _ _ _ _ _ names.1 (c.row.ensures.0 ∙ ap₂ (λ p z. p * c.args.n.symbols + z) c.target-r.ensures.0 c.top.ensures.0)
+      ∙ sym (pushes_single _ _ _ _ (sym c.pushes-l.ensures.0 ∙ c.if-l-eq1.true))))) (omega arith),
+)
 
 pub chance-loop-i-preserved-then-l-eq1 : goal.chance-loop-i-preserved-then-l-eq1
 chance-loop-i-preserved-then-l-eq1 t c = let names = record_names c.requires.files.sized (row_record c.loop-i.invariant c.loop-i-test.true) in
@@ -98,35 +92,41 @@ chance-loop-i-preserved-then-l-eq1 t c = let names = record_names c.requires.fil
 pub chance-overflow_mul-sum-in-loop-i : goal.chance-overflow_mul-sum-in-loop-i
 chance-overflow_mul-sum-in-loop-i t c =
     let none-pushed : pushes c.args.model.now c.loop-i.i ≡ 0 =
-        let most = (c.requires.files.sized.file.records.right _ (row_record c.loop-i.invariant c.loop-i-test.true)).pushes_range in pushes_nothing_left _ most (λ e. c.if-l-eq2.false (c.pushes-l.ensures.0 ∙ e)) (λ e. c.if-l-eq1.false (c.pushes-l.ensures.0 ∙ e)) in
-    omega (arith, row_limit _ _ ((
-    let none-pushed : pushes c.args.model.now c.loop-i.i ≡ 0 =
-        let most = (c.requires.files.sized.file.records.right _ (row_record c.loop-i.invariant c.loop-i-test.true)).pushes_range in pushes_nothing_left _ most (λ e. c.if-l-eq2.false (c.pushes-l.ensures.0 ∙ e)) (λ e. c.if-l-eq1.false (c.pushes-l.ensures.0 ∙ e)) in
-    let start = c in
-    let is : c.returned.result ≡ c.certain-whole.result * bit (eqb c.target-r.result start.args.q) = c.returned.ensures in
-    row_more c.loop-i.invariant c.loop-i-test.true c.weight-k.ensures.0
-    (is
-    ∙ ap₂ (λ w r. w * bit (eqb r start.args.q)) c.certain-whole.ensures c.target-r.ensures.0
-    ∙ sym (pushes_none _ _ _ _ none-pushed)))) (omega arith))
+    let most = (c.requires.files.sized.file.records.right _ (row_record c.loop-i.invariant c.loop-i-test.true)).pushes_range in pushes_nothing_left _ most (λ e. c.if-l-eq2.false (c.pushes-l.ensures.0 ∙ e)) (λ e. c.if-l-eq1.false (c.pushes-l.ensures.0 ∙ e)) in
+    omega (
+      arith,
+      row_limit _ _ ((
+          let none-pushed : pushes c.args.model.now c.loop-i.i ≡ 0 =
+          let most = (c.requires.files.sized.file.records.right _ (row_record c.loop-i.invariant c.loop-i-test.true)).pushes_range in pushes_nothing_left _ most (λ e. c.if-l-eq2.false (c.pushes-l.ensures.0 ∙ e)) (λ e. c.if-l-eq1.false (c.pushes-l.ensures.0 ∙ e)) in
+          let start = c in
+          let is : c.returned.result ≡ c.certain-whole.result * bit (eqb c.target-r.result start.args.q) = c.returned.ensures in
+          row_more c.loop-i.invariant c.loop-i-test.true c.weight-k.ensures.0
+          (is
+          ∙ ap₂ (λ w r. w * bit (eqb r start.args.q)) c.certain-whole.ensures c.target-r.ensures.0
+          ∙ sym (pushes_none _ _ _ _ none-pushed)))) (omega arith),
+    )
 
 pub chance-overflow_add-sum-in-loop-i : goal.chance-overflow_add-sum-in-loop-i
 chance-overflow_add-sum-in-loop-i t c =
     let none-pushed : pushes c.args.model.now c.loop-i.i ≡ 0 =
-        let most = (c.requires.files.sized.file.records.right _ (row_record c.loop-i.invariant c.loop-i-test.true)).pushes_range in pushes_nothing_left _ most (λ e. c.if-l-eq2.false (c.pushes-l.ensures.0 ∙ e)) (λ e. c.if-l-eq1.false (c.pushes-l.ensures.0 ∙ e)) in
-    omega (arith, row_limit _ _ ((
-    let none-pushed : pushes c.args.model.now c.loop-i.i ≡ 0 =
-        let most = (c.requires.files.sized.file.records.right _ (row_record c.loop-i.invariant c.loop-i-test.true)).pushes_range in pushes_nothing_left _ most (λ e. c.if-l-eq2.false (c.pushes-l.ensures.0 ∙ e)) (λ e. c.if-l-eq1.false (c.pushes-l.ensures.0 ∙ e)) in
-    let start = c in
-    let is : c.returned.result ≡ c.certain-whole.result * bit (eqb c.target-r.result start.args.q) = c.returned.ensures in
-    row_more c.loop-i.invariant c.loop-i-test.true c.weight-k.ensures.0
-    (is
-    ∙ ap₂ (λ w r. w * bit (eqb r start.args.q)) c.certain-whole.ensures c.target-r.ensures.0
-    ∙ sym (pushes_none _ _ _ _ none-pushed)))) (omega arith))
+    let most = (c.requires.files.sized.file.records.right _ (row_record c.loop-i.invariant c.loop-i-test.true)).pushes_range in pushes_nothing_left _ most (λ e. c.if-l-eq2.false (c.pushes-l.ensures.0 ∙ e)) (λ e. c.if-l-eq1.false (c.pushes-l.ensures.0 ∙ e)) in
+    omega (
+      arith,
+      row_limit _ _ ((
+          let none-pushed : pushes c.args.model.now c.loop-i.i ≡ 0 =
+          let most = (c.requires.files.sized.file.records.right _ (row_record c.loop-i.invariant c.loop-i-test.true)).pushes_range in pushes_nothing_left _ most (λ e. c.if-l-eq2.false (c.pushes-l.ensures.0 ∙ e)) (λ e. c.if-l-eq1.false (c.pushes-l.ensures.0 ∙ e)) in
+          let start = c in
+          let is : c.returned.result ≡ c.certain-whole.result * bit (eqb c.target-r.result start.args.q) = c.returned.ensures in
+          row_more c.loop-i.invariant c.loop-i-test.true c.weight-k.ensures.0
+          (is
+          ∙ ap₂ (λ w r. w * bit (eqb r start.args.q)) c.certain-whole.ensures c.target-r.ensures.0
+          ∙ sym (pushes_none _ _ _ _ none-pushed)))) (omega arith),
+    )
 
 pub chance-loop-i-preserved : goal.chance-loop-i-preserved
 chance-loop-i-preserved t c =
     let none-pushed : pushes c.args.model.now c.loop-i.i ≡ 0 =
-        let most = (c.requires.files.sized.file.records.right _ (row_record c.loop-i.invariant c.loop-i-test.true)).pushes_range in pushes_nothing_left _ most (λ e. c.if-l-eq2.false (c.pushes-l.ensures.0 ∙ e)) (λ e. c.if-l-eq1.false (c.pushes-l.ensures.0 ∙ e)) in
+    let most = (c.requires.files.sized.file.records.right _ (row_record c.loop-i.invariant c.loop-i-test.true)).pushes_range in pushes_nothing_left _ most (λ e. c.if-l-eq2.false (c.pushes-l.ensures.0 ∙ e)) (λ e. c.if-l-eq1.false (c.pushes-l.ensures.0 ∙ e)) in
     let start = c in
     let is : c.returned.result ≡ c.certain-whole.result * bit (eqb c.target-r.result start.args.q) = c.returned.ensures in
     row_more c.loop-i.invariant c.loop-i-test.true c.weight-k.ensures.0
@@ -152,27 +152,27 @@ chance_of_pair-loop-k-init t c = (le_refl _, pair_begin _ _ _ _ _ c.requires.ins
 pub chance_of_pair-overflow_mul-sum : goal.chance_of_pair-overflow_mul-sum
 chance_of_pair-overflow_mul-sum t c =
     let first-row : c.row-first.result ≡ row_at c.args.n.symbols (target c.args.model.now c.args.i) (top c.args.model.now c.args.i) =
-        c.row-first.ensures.0 ∙ ap₂ (row_at c.args.n.symbols) c.target.ensures.0 c.top.ensures.0 in
+    c.row-first.ensures.0 ∙ ap₂ (row_at c.args.n.symbols) c.target.ensures.0 c.top.ensures.0 in
     let parted : let s = c.args.n.states in (0 < c.loop-k.k / s) × (c.loop-k.k / s < c.args.steps) × (c.loop-k.k % s < s) =
-        pair_split _ _ _ (sized_fits c.requires.files.sized).some_states c.loop-k.invariant.0 c.loop-k-test.true in
+    pair_split _ _ _ (sized_fits c.requires.files.sized).some_states c.loop-k.invariant.0 c.loop-k-test.true in
     let first-steps : let start = c.args in let s = start.n.states in (65536 * c.chance-before.result ≤ c.chance-within.result) × (c.chance-within.result - 65536 * c.chance-before.result ≡ exactly (rules_of start.model.now) (c.loop-k.k / s) (target start.model.now start.i) (top start.model.now start.i ∷ []) (c.loop-k.k % s)) =
-        let names = record_names c.requires.files.sized c.requires.inside.2 in exactly_is_difference _ _ _ _ _ parted.0 (c.chance-within.ensures.0 ∙ at_row _ _ _ _ _ _ names.1 first-row) (c.chance-before.ensures.0 ∙ at_row _ _ _ _ _ _ names.1 first-row) in
+    let names = record_names c.requires.files.sized c.requires.inside.2 in exactly_is_difference _ _ _ _ _ parted.0 (c.chance-within.ensures.0 ∙ at_row _ _ _ _ _ _ names.1 first-row) (c.chance-before.ensures.0 ∙ at_row _ _ _ _ _ _ names.1 first-row) in
     omega (arith, first-steps.0, c.chance-within.ensures.1, power_most _ (le_trans (le_of_lt parted.1) c.requires.inside.1))
 
 pub chance_of_pair-overflow_sub-sum : goal.chance_of_pair-overflow_sub-sum
 chance_of_pair-overflow_sub-sum t c =
     let first-row : c.row-first.result ≡ row_at c.args.n.symbols (target c.args.model.now c.args.i) (top c.args.model.now c.args.i) =
-        c.row-first.ensures.0 ∙ ap₂ (row_at c.args.n.symbols) c.target.ensures.0 c.top.ensures.0 in
+    c.row-first.ensures.0 ∙ ap₂ (row_at c.args.n.symbols) c.target.ensures.0 c.top.ensures.0 in
     let parted : let s = c.args.n.states in (0 < c.loop-k.k / s) × (c.loop-k.k / s < c.args.steps) × (c.loop-k.k % s < s) =
-        pair_split _ _ _ (sized_fits c.requires.files.sized).some_states c.loop-k.invariant.0 c.loop-k-test.true in
+    pair_split _ _ _ (sized_fits c.requires.files.sized).some_states c.loop-k.invariant.0 c.loop-k-test.true in
     let first-steps : let start = c.args in let s = start.n.states in (65536 * c.chance-before.result ≤ c.chance-within.result) × (c.chance-within.result - 65536 * c.chance-before.result ≡ exactly (rules_of start.model.now) (c.loop-k.k / s) (target start.model.now start.i) (top start.model.now start.i ∷ []) (c.loop-k.k % s)) =
-        let names = record_names c.requires.files.sized c.requires.inside.2 in exactly_is_difference _ _ _ _ _ parted.0 (c.chance-within.ensures.0 ∙ at_row _ _ _ _ _ _ names.1 first-row) (c.chance-before.ensures.0 ∙ at_row _ _ _ _ _ _ names.1 first-row) in
+    let names = record_names c.requires.files.sized c.requires.inside.2 in exactly_is_difference _ _ _ _ _ parted.0 (c.chance-within.ensures.0 ∙ at_row _ _ _ _ _ _ names.1 first-row) (c.chance-before.ensures.0 ∙ at_row _ _ _ _ _ _ names.1 first-row) in
     omega (arith, first-steps.0)
 
 pub chance_of_pair-row-requires : goal.chance_of_pair-row-requires
 chance_of_pair-row-requires t c =
     let parted : let s = c.args.n.states in (0 < c.loop-k.k / s) × (c.loop-k.k / s < c.args.steps) × (c.loop-k.k % s < s) =
-        pair_split _ _ _ (sized_fits c.requires.files.sized).some_states c.loop-k.invariant.0 c.loop-k-test.true in
+    pair_split _ _ _ (sized_fits c.requires.files.sized).some_states c.loop-k.invariant.0 c.loop-k-test.true in
     let start = c in
     let names = record_names start.requires.files.sized start.requires.inside.2 in
     (fits_narrow (sized_fits start.requires.files.sized), omega (arith, parted.2, start.requires.inside.3), omega (arith, names.2, c.under-x.ensures.0))
@@ -180,30 +180,36 @@ chance_of_pair-row-requires t c =
 pub chance_of_pair-overflow_mul-sum-in-loop-k : goal.chance_of_pair-overflow_mul-sum-in-loop-k
 chance_of_pair-overflow_mul-sum-in-loop-k t c =
     let first-row : c.row-first.result ≡ row_at c.args.n.symbols (target c.args.model.now c.args.i) (top c.args.model.now c.args.i) =
-        c.row-first.ensures.0 ∙ ap₂ (row_at c.args.n.symbols) c.target.ensures.0 c.top.ensures.0 in
+    c.row-first.ensures.0 ∙ ap₂ (row_at c.args.n.symbols) c.target.ensures.0 c.top.ensures.0 in
     let parted : let s = c.args.n.states in (0 < c.loop-k.k / s) × (c.loop-k.k / s < c.args.steps) × (c.loop-k.k % s < s) =
-        pair_split _ _ _ (sized_fits c.requires.files.sized).some_states c.loop-k.invariant.0 c.loop-k-test.true in
+    pair_split _ _ _ (sized_fits c.requires.files.sized).some_states c.loop-k.invariant.0 c.loop-k-test.true in
     let first-steps : let start = c.args in let s = start.n.states in (65536 * c.chance-before.result ≤ c.chance-within.result) × (c.chance-within.result - 65536 * c.chance-before.result ≡ exactly (rules_of start.model.now) (c.loop-k.k / s) (target start.model.now start.i) (top start.model.now start.i ∷ []) (c.loop-k.k % s)) =
-        let names = record_names c.requires.files.sized c.requires.inside.2 in exactly_is_difference _ _ _ _ _ parted.0 (c.chance-within.ensures.0 ∙ at_row _ _ _ _ _ _ names.1 first-row) (c.chance-before.ensures.0 ∙ at_row _ _ _ _ _ _ names.1 first-row) in
-    omega (arith, pair_limit c.requires.files.sized _ _ c.requires.inside.2 (
-    let names = record_names c.requires.files.sized c.requires.inside.2 in
-      states_more c.loop-k.invariant.1 c.loop-k-test.true
+    let names = record_names c.requires.files.sized c.requires.inside.2 in exactly_is_difference _ _ _ _ _ parted.0 (c.chance-within.ensures.0 ∙ at_row _ _ _ _ _ _ names.1 first-row) (c.chance-before.ensures.0 ∙ at_row _ _ _ _ _ _ names.1 first-row) in
+    omega (
+      arith,
+      pair_limit c.requires.files.sized _ _ c.requires.inside.2 (
+          let names = record_names c.requires.files.sized c.requires.inside.2 in
+          states_more c.loop-k.invariant.1 c.loop-k-test.true
           (ap₂ ◌*◌ first-steps.1
-          (c.chance.ensures.0 ∙ at_row _ _ _ _ _ _ names.2 (c.row.ensures.0 ∙ ap (row_at _ _) c.under-x.ensures.0)))) c.requires.inside.1)
+          (c.chance.ensures.0 ∙ at_row _ _ _ _ _ _ names.2 (c.row.ensures.0 ∙ ap (row_at _ _) c.under-x.ensures.0)))) c.requires.inside.1,
+    )
 
 pub chance_of_pair-overflow_add-sum : goal.chance_of_pair-overflow_add-sum
 chance_of_pair-overflow_add-sum t c =
     let first-row : c.row-first.result ≡ row_at c.args.n.symbols (target c.args.model.now c.args.i) (top c.args.model.now c.args.i) =
-        c.row-first.ensures.0 ∙ ap₂ (row_at c.args.n.symbols) c.target.ensures.0 c.top.ensures.0 in
+    c.row-first.ensures.0 ∙ ap₂ (row_at c.args.n.symbols) c.target.ensures.0 c.top.ensures.0 in
     let parted : let s = c.args.n.states in (0 < c.loop-k.k / s) × (c.loop-k.k / s < c.args.steps) × (c.loop-k.k % s < s) =
-        pair_split _ _ _ (sized_fits c.requires.files.sized).some_states c.loop-k.invariant.0 c.loop-k-test.true in
+    pair_split _ _ _ (sized_fits c.requires.files.sized).some_states c.loop-k.invariant.0 c.loop-k-test.true in
     let first-steps : let start = c.args in let s = start.n.states in (65536 * c.chance-before.result ≤ c.chance-within.result) × (c.chance-within.result - 65536 * c.chance-before.result ≡ exactly (rules_of start.model.now) (c.loop-k.k / s) (target start.model.now start.i) (top start.model.now start.i ∷ []) (c.loop-k.k % s)) =
-        let names = record_names c.requires.files.sized c.requires.inside.2 in exactly_is_difference _ _ _ _ _ parted.0 (c.chance-within.ensures.0 ∙ at_row _ _ _ _ _ _ names.1 first-row) (c.chance-before.ensures.0 ∙ at_row _ _ _ _ _ _ names.1 first-row) in
-    omega (arith, pair_limit c.requires.files.sized _ _ c.requires.inside.2 (
-    let names = record_names c.requires.files.sized c.requires.inside.2 in
-      states_more c.loop-k.invariant.1 c.loop-k-test.true
+    let names = record_names c.requires.files.sized c.requires.inside.2 in exactly_is_difference _ _ _ _ _ parted.0 (c.chance-within.ensures.0 ∙ at_row _ _ _ _ _ _ names.1 first-row) (c.chance-before.ensures.0 ∙ at_row _ _ _ _ _ _ names.1 first-row) in
+    omega (
+      arith,
+      pair_limit c.requires.files.sized _ _ c.requires.inside.2 (
+          let names = record_names c.requires.files.sized c.requires.inside.2 in
+          states_more c.loop-k.invariant.1 c.loop-k-test.true
           (ap₂ ◌*◌ first-steps.1
-          (c.chance.ensures.0 ∙ at_row _ _ _ _ _ _ names.2 (c.row.ensures.0 ∙ ap (row_at _ _) c.under-x.ensures.0)))) c.requires.inside.1)
+          (c.chance.ensures.0 ∙ at_row _ _ _ _ _ _ names.2 (c.row.ensures.0 ∙ ap (row_at _ _) c.under-x.ensures.0)))) c.requires.inside.1,
+    )
 
 pub chance_of_pair-overflow_add-k : goal.chance_of_pair-overflow_add-k
 chance_of_pair-overflow_add-k t c = omega (arith, mul-le-mul (sized_fits c.requires.files.sized).few_states c.requires.inside.1)
@@ -211,11 +217,11 @@ chance_of_pair-overflow_add-k t c = omega (arith, mul-le-mul (sized_fits c.requi
 pub chance_of_pair-loop-k-preserved : goal.chance_of_pair-loop-k-preserved
 chance_of_pair-loop-k-preserved t c =
     let first-row : c.row-first.result ≡ row_at c.args.n.symbols (target c.args.model.now c.args.i) (top c.args.model.now c.args.i) =
-        c.row-first.ensures.0 ∙ ap₂ (row_at c.args.n.symbols) c.target.ensures.0 c.top.ensures.0 in
+    c.row-first.ensures.0 ∙ ap₂ (row_at c.args.n.symbols) c.target.ensures.0 c.top.ensures.0 in
     let parted : let s = c.args.n.states in (0 < c.loop-k.k / s) × (c.loop-k.k / s < c.args.steps) × (c.loop-k.k % s < s) =
-        pair_split _ _ _ (sized_fits c.requires.files.sized).some_states c.loop-k.invariant.0 c.loop-k-test.true in
+    pair_split _ _ _ (sized_fits c.requires.files.sized).some_states c.loop-k.invariant.0 c.loop-k-test.true in
     let first-steps : let start = c.args in let s = start.n.states in (65536 * c.chance-before.result ≤ c.chance-within.result) × (c.chance-within.result - 65536 * c.chance-before.result ≡ exactly (rules_of start.model.now) (c.loop-k.k / s) (target start.model.now start.i) (top start.model.now start.i ∷ []) (c.loop-k.k % s)) =
-        let names = record_names c.requires.files.sized c.requires.inside.2 in exactly_is_difference _ _ _ _ _ parted.0 (c.chance-within.ensures.0 ∙ at_row _ _ _ _ _ _ names.1 first-row) (c.chance-before.ensures.0 ∙ at_row _ _ _ _ _ _ names.1 first-row) in
+    let names = record_names c.requires.files.sized c.requires.inside.2 in exactly_is_difference _ _ _ _ _ parted.0 (c.chance-within.ensures.0 ∙ at_row _ _ _ _ _ _ names.1 first-row) (c.chance-before.ensures.0 ∙ at_row _ _ _ _ _ _ names.1 first-row) in
     let names = record_names c.requires.files.sized c.requires.inside.2 in (
       omega (arith, c.loop-k.invariant.0),
       states_more c.loop-k.invariant.1 c.loop-k-test.true

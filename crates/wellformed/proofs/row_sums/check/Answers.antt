@@ -1,6 +1,5 @@
 -- `check`: the loop returns at the first row whose sum is not 65,536, after every row before it has passed; each row starts where the one before
 -- it ends.
-use Prim.Native.Nat.{◌-◌}
 use native.Mathlib.Omega.{arith}
 use mathlib.Core.Path.{◌≡◌, sym, ap, ◌∙◌}
 use borrow.Author.Rules.{rules}
@@ -37,14 +36,13 @@ returns-then-row-ne-WEIGHT_UNIT c =
 
 pub loop-k-preserved : goal.loop-k-preserved
 loop-k-preserved c =
-    let sum-found : let model = c.args.model.now in c.sum_of_row-row.result.sum ≡ row_sum model (symbols_of model) c.loop-k.k = let start = c in c.sum_of_row-row.ensures.0 ∙ ap (λ (n : Sizes). row_sum start.args.model.now n.symbols c.loop-k.k) start.requires.2 in
-    (
-  omega arith,
-  search rules,
-  search rules,
-  each_more _ _ c.loop-k.invariant.3 (row_passes _ _ (sym (sum-found) ∙ c.if-row-ne-WEIGHT_UNIT.false)),
-  c.sum_of_row-row.ensures.1,
-)
+    let sum-found : let model = c.args.model.now in c.sum_of_row-row.result.sum ≡ row_sum model (symbols_of model) c.loop-k.k = let start = c in c.sum_of_row-row.ensures.0 ∙ ap (λ (n : Sizes). row_sum start.args.model.now n.symbols c.loop-k.k) start.requires.2 in (
+      omega arith,
+      search rules,
+      search rules,
+      each_more _ _ c.loop-k.invariant.3 (row_passes _ _ (sym (sum-found) ∙ c.if-row-ne-WEIGHT_UNIT.false)),
+      c.sum_of_row-row.ensures.1,
+    )
 
 pub returns : goal.returns
 unfolding rows_tests

@@ -1,5 +1,4 @@
 -- `sum_of_row`: every record passed is of the row or an earlier one, and the records ascend, so that the row ends at the first of another row.
-use Prim.Native.Nat.{◌-◌}
 use native.Mathlib.Omega.{arith}
 use mathlib.Core.Path.{◌≡◌, sym, ap, ◌∙◌}
 use Rattle.model.specs.declared.sizes.Sizes.{Sizes}
