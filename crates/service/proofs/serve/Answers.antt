@@ -11,7 +11,7 @@ use Rattle.service.proofs.serve.Goals as goal
 pub loop-i-init : goal.loop-i-init
 loop-i-init g c =
     let line_size : length c.args.desk.line ≡ 301 =
-        c.well_formed.1.0.1.1.1.0.1.0.1 in
+    c.well_formed.1.0.1.1.1.0.1.0.1 in
     let start = c in
     let none = ap (λ (n : Sizes). n.states) c.none-sizes.ensures in
     (serving_none c.least-taken.ensures (line_size) (omega (arith, c.least-kept.ensures)) c.view-v.ensures c.lists-lists.ensures, record { size = refl; found = λ some. absurd (omega arith) })
