@@ -1,9 +1,9 @@
 -- A piece that there is room for is taken whole.
-use Prim.Native.Nat.{ℕ, ◌*◌, ◌/◌, ◌≤◌, min}
+use Prim.Native.Nat.{ℕ, ◌*◌, ◌≤◌}
 use native.Mathlib.Omega.{arith}
 use mathlib.Core.List.{List}
-use mathlib.Core.Path.{◌≡◌, ◌∙◌}
-use lib.ListN.{length, take}
+use mathlib.Core.Path.{◌≡◌}
+use lib.ListN.{length}
 use lib.Seq.{take_all}
 use Rattle.replies.specs.Clauses.{reply_room}
 use Rattle.service.specs.declared.Desk.{Desk}

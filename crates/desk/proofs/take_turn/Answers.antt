@@ -3,8 +3,8 @@ use Rattle.std.proofs.Common.{[]}
 use Rattle.script.proofs.Printing.{serves_none}
 use Rattle.desk.proofs.take_turn.Goals as goal
 
-pub returns-in-Ok : goal.returns-in-Ok
-returns-in-Ok g c = record { piece = []; replied = record { text = []; serves = serves_none _ } }
+pub returns-in-Ok-eq0 : goal.returns-in-Ok-eq0
+returns-in-Ok-eq0 g c = record { piece = []; replied = record { text = []; serves = serves_none _ } }
 
 pub returns-in-Err : goal.returns-in-Err
 returns-in-Err g c = record { piece = []; replied = record { text = []; serves = serves_none _ } }
