@@ -13,7 +13,7 @@ use Rattle.ppda.specs.Bounds.{LowersHold}
 use Rattle.ppda.proofs.Upper.{upper_holds}
 use Rattle.ppda.proofs.Lower.{lower_holds}
 use Rattle.ppda.proofs.Mean.{mean_holds}
-use Rattle.ppda.proofs.Tail.{tail_holds}
+use Rattle.ppda.proofs.Bounds.{tail_holds}
 use Rattle.model.specs.Records.{states_of, symbols_of}
 use Rattle.model.specs.Rules.{rules_of}
 use Rattle.model.proofs.Accepted.{is_model_lem}

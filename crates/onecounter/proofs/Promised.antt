@@ -12,7 +12,7 @@ use Rattle.ppda.specs.Bounds.{steps_of, AtMostUpper, AtLeastLower, AtMostMean, A
 use Rattle.ppda.proofs.Upper.{upper_holds}
 use Rattle.ppda.proofs.Lower.{lower_holds}
 use Rattle.ppda.proofs.Mean.{mean_holds}
-use Rattle.ppda.proofs.Tail.{tail_holds}
+use Rattle.ppda.proofs.Bounds.{tail_holds}
 use Rattle.onecounter.specs.Moves.{Move, IsMachine}
 use Rattle.onecounter.specs.Pushing.{rules_for}
 use Rattle.onecounter.specs.Equation.{Matrix, passage_side}

@@ -10,9 +10,9 @@ use Rattle.walks.specs.Order.{AtEntries}
 use Rattle.walks.proofs.Numbers.{less_or_not}
 use Rattle.ppda.specs.Rules.{Rule, IsModel}
 use Rattle.ppda.specs.Chances.{chance}
-use Rattle.ppda.specs.Equations.{Vector, RowVector}
+use Rattle.ppda.specs.Equations.{Vector}
 use Rattle.ppda.specs.Margin.{margin, whole, kept}
-use Rattle.ppda.specs.Bounds.{Uppers, Lowers, Certificate, steps_of}
+use Rattle.ppda.specs.Bounds.{Uppers, Lowers, steps_of}
 use Rattle.ppda.proofs.Upper.{power_positive, upper_holds}
 use Rattle.ppda.proofs.Margin.{kept_below_whole}
 use Rattle.ppda.proofs.Lower.{lower_holds}
@@ -59,11 +59,3 @@ module _ (m : List Rule) (s g : ℕ) (model : IsModel s g m) where
       (power_positive (steps_of k))
       ((lower_holds m s g u l model uppers lowers p z q hp hz hq).above_zero k)
       (upper_holds m s g v model others p z q hp hz hq (steps_of k)))
-
-  -- Two certificates of one model: each lower of the one is at most the upper of the other, and the other way round.
-  pub certificates_agree : (u l v k : Vector) (r t : RowVector) → Certificate m s g u l r → Certificate m s g v k t
-      → AtEntries s g (λ p z q. (l p z q ≤ v p z q) × (k p z q ≤ u p z q))
-  certificates_agree u l v k r t one other p z q hp hz hq = (
-    lower_under_upper u l v one.uppers one.lowers other.uppers p z q hp hz hq,
-    lower_under_upper v k u other.uppers other.lowers one.uppers p z q hp hz hq,
-  )

@@ -10,13 +10,12 @@ use Rattle.walks.specs.Sums.{sum_to, In}
 use Rattle.ppda.specs.Rules.{Rule, over_row, pushed, Below, IsModel}
 use Rattle.ppda.specs.Runs.{over_runs, over_runs_within}
 use Rattle.ppda.specs.Chances.{returned, under_way, chance_from, returned_within, counted}
-use Rattle.ppda.specs.Equations.{Vector, RowVector}
-use Rattle.ppda.specs.Bounds.{Uppers, Means, MeanHolds, AtLeastTail, TailHolds, TailsHold}
+use Rattle.ppda.specs.Bounds.{MeanHolds, AtLeastTail, TailHolds}
 use Rattle.ppda.proofs.Rows.{row_cong, row_mono, row_mul}
 use Rattle.ppda.proofs.Steps.{runs_zero, runs_empty, runs_step, within_zero, within_empty, within_step}
 use Rattle.ppda.proofs.Stacks.{followed, followed_zero, followed_empty, followed_step}
 use Rattle.ppda.proofs.Mass.{after_below, mass_whole_from}
-use Rattle.ppda.proofs.Mean.{mean_from, mean_step, mean_holds}
+use Rattle.ppda.proofs.Mean.{mean_from, mean_step}
 
 -- ---- runs that have not returned
 
@@ -124,9 +123,6 @@ module _ (m : List Rule) (s g : ℕ) (model : IsModel s g m) where
 
     pub tail_rounded_down : (n k : ℕ) → r < (k + 1) * 2 ^ 8 → n * 2 ^ 8 * 65536 ^ n ≤ n * 2 ^ 8 * returned_within m s n p z + k * 2 ^ 8 * 65536 ^ n
     tail_rounded_down n k below = rw (← whole n) (omega (arith, few_away n, mul-le-mul_right (returned_within m s n p z + away_from m n p (z ∷ [])) below))
-
-pub tail_holds : (m : List Rule) (s g : ℕ) (u : Vector) (r : RowVector) → IsModel s g m → Uppers m s g u → Means m s g u r → TailsHold m s g r
-tail_holds m s g u r model uppers means p z hp hz = tail_of_mean m s g model p z (r p z) hp hz (mean_holds m s g u r model uppers means p z hp hz)
 
 -- ---- what it says to who books n steps
 
