@@ -57,6 +57,10 @@ SHARED_MEMORY = Path("/dev/shm")
 
 # Folders of files.
 
+# A name that is no text in UTF-8: a file of that name is there, and cannot be opened. And how the desk shows it.
+NO_TEXT, NO_TEXT_SHOWN = b"\x80\xff\xfe", b"\\x80\\xff\\xfe"
+
+
 class Folder:
     """Files by name: those that are accepted as a model and those as a counter file, each a theme (the call's word, the name) with the deliveries made for it, the
     accepted ones among these, lists of pairs of accepted ones that are alike, and accepted ones with what is merged of them; and other files."""
@@ -125,10 +129,15 @@ class Folder:
         for name, data in self.files.items():
             with open(os.path.join(root, name), "wb") as file:
                 file.write(data)
+        with open(os.path.join(root, NO_TEXT), "wb") as file:
+            file.write(next(iter(self.files.values()), b""))
 
     def reader(self, warnings):
-        """Reads files as the system would; a warning for a directory is added to the list."""
+        """Reads files as the system would; a warning for a directory, or a name that is no text, is added to the list."""
         def read(path, most):
+            if NO_TEXT in path:
+                warnings.append(path.replace(NO_TEXT, NO_TEXT_SHOWN) + b": a name that is not UTF-8, not opened\n")
+                return b""
             if posixpath.normpath(path) in self.directories | {b"."}:
                 warnings.append(path + b": Is a directory\n")
             return self.files.get(posixpath.normpath(path), b"")[:most]
@@ -141,8 +150,8 @@ def model_made(counter):
 
 
 def new_name(number):
-    """The name of a folder's file by its number: plain, in UTF-8, in bytes that are no text, in a folder, with signs, of 255 bytes."""
-    forms = (b"%d", b"%d.tab", "modèle-%d.tab".encode(), "表%d".encode(), b"\x80\xff%d\xfe", b"sub/%d", b"#%d", b"-%d", b"'%d$(x)\"\\", b"%d" + b"n" * 252)
+    """The name of a folder's file by its number: plain, in UTF-8, with a control character, in a folder, with signs, of 255 bytes."""
+    forms = (b"%d", b"%d.tab", "modèle-%d.tab".encode(), "表%d".encode(), "\x80\xff%d\xfe".encode(), b"sub/%d", b"#%d", b"-%d", b"'%d$(x)\"\\", b"%d" + b"n" * 252)
     name = forms[number % len(forms)] % number
     return name[:plainpair.LONGEST_PATH]
 
@@ -254,7 +263,7 @@ def path_of(rng, name):
 
 def filing(rng, folder, theme):
     """A model, a counter file, a delivery or a merge: mostly the theme's, else another, one for another call, or a file that is missing or none."""
-    absent, lot = [b"gone", b"folder", b"gone/1", b".", "fehlt-ü".encode()], rng.randrange(100)
+    absent, lot = [b"gone", b"folder", b"gone/1", b".", "fehlt-ü".encode(), NO_TEXT], rng.randrange(100)
     if rng.randrange(10) < 3:
         word, name = theme if lot < 50 else rng.choice(folder.themes)
         if lot >= 65:
