@@ -51,8 +51,7 @@ TABLE = [
         ("numbers: numbers,",)),
     # with the call that tells whether a delivery is held, and what comes with it in the proof
     Row("checks the first delivery after a model and waves later ones through", "register/waves_later_deliveries_through",
-        ("let another = held::is_held(delivery); let former = self.numbers;", "if is_refused(found) & true {", "start c = c.before.before.before.before.before.before.before",
-         "(tie.spec (λ c κs. search needs)")),
+        ("let another = held::is_held(delivery); let former = self.numbers;", "if is_refused((found)) {")),
     Row("marks a refused delivery, in definition and code", "register/refused_delivery_marked_known",
         ("use Rattle.calls.specs.declared.Mark.TheVariants.{Known, Absent}", "turned_away r o = record { outcome = o; register = r; mark = Absent }",
          "        mark: (Mark::Absent),")),
@@ -236,8 +235,7 @@ TABLE = [
         ("          (margin (rules_of b) (states_of b) (symbols_of b) (entries_by_exit (states_of b) (symbols_of b) (kept_to Smaller (entries_in (states_of b) (symbols_of b)) former.uppers second.uppers))) 0;",)),
     Row("keeps the uppers of the second", "merging/second_uppers_kept", ("let list = kept_of(Keep::Smaller, &held, &second, n.entries()); list",)),
     Row("replaces the held delivery by the second", "register/second_held_after_a_merge",
-        ("let joined = merged_shape(first, second); let shape = joined;", "let merged = merged_numbers(model, n, first, self.numbers, second, file);",
-         "merged-numbers-requires : tie.Need-merged-numbers-requires", "first.shape-held.ensures second.shape-for.ensures shape.merged_shape_lem.ensures numbers.merged_numbers.ensures")),
+        ("let shape = merged_shape((first), second);", "let merged = merged_numbers((model), n, first, before, second, file);", "pub merged_numbers-merged-requires : goal.merged_numbers-merged-requires", "merged_numbers-merged-requires c =", "shape.merged_shape-shape.ensures numbers.merged_numbers-merged.ensures")),
     Row("replaces the held delivery by the second, by definition", "history/second_held_after_a_merge",
         ("merged_with (some b) (some e) d = cond false none (some (merged b e d))",)),
     Row("keeps the held delivery and says that it merged", "register/merge_keeps_the_held_delivery",
@@ -282,7 +280,7 @@ TABLE = [
     Row("asks with state and exit exchanged", "held/asked_with_state_and_exit_exchanged", ("number_at(list, (n.exit_place(p, z, q)))",)),
     # with the names of the call in the proof
     Row("asks in the order of files", "held/asked_in_file_order",
-        ("number_at(list, (n.exit_place(p, z, q)))",)),
+        ("number_at(list, (n.exit_place(p, z, q)))", "pub exit_place-requires : goal.exit_place-requires", "exit_place-requires c =", "let place : c.exit_place.result ≡ exit_place args.n.states args.n.symbols args.p args.z args.q = c.exit_place.ensures.0 in")),
     Row("merges with the second's uppers in the order of files, in the contract", "merging/second_in_file_order_in_the_contract",
         ("use Rattle.held.specs.Held.{if_standing, listed_by_exit, listed_rows}",
          "uppers_merged s g former d = kept_to Smaller (entries_in s g) former.uppers (let l = listed_by_exit s g (uppers_of s g d) in l)")),
