@@ -16,7 +16,7 @@ const PIECE: usize = 16_384;
 const ROOM: usize = PIECE * replies::REPLY_ROOM;
 
 // What a turn leaves: the desk, whether there may be more to read, and whether the input has ended.
-#[derive(Drop)]
+#[derive(Clone, Copy)]
 struct Turn {
     desk: Desk,
     goes_on: bool,

@@ -1,4 +1,4 @@
--- What a walker, a file and a kind own, for the proofs of walker.rt. A walker is Copy, and a kind owns facts alone.
+-- What a walker, a file and a kind own. A walker is Copy, and a kind owns facts alone.
 use mathlib.Core.Path.{◌≡◌, refl}
 use Prim.Native.Nat.{ℕ, ◌<◌, ◌^◌}
 use mathlib.Core.List.{List, [], ◌∷◌}

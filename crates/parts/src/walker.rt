@@ -7,7 +7,7 @@ ghost use Rattle.parts.specs.Parts.{record_part, next_after, Lying};
 use super::record::{Kind, next_after, record_at};
 
 // A file and the number of its next record.
-#[derive(Drop)]
+#[derive(Clone, Copy)]
 pub struct Walker<'a> {
     pub file: &'a [u8],
     pub next: usize,

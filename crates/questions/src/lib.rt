@@ -40,7 +40,7 @@ pub const MEANS: usize = 3;
 pub const LISTS: usize = 4;
 
 // What questions are answered from, beside the lists of numbers: what is held, and the model's bytes.
-#[derive(Drop)]
+#[derive(Clone, Copy)]
 pub struct View {
     pub shown: Shown,
     pub bytes: [u8; MOST_BYTES],

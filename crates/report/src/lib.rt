@@ -28,7 +28,7 @@ ghost use Rattle.report.specs.Clauses.{room, HoldsText, lines_with, HoldsModel, 
 const ROOM: usize = TABLE_ROOM + MARGIN_ROOM + MOST_ENTRIES * CHANCE_ROOM + MOST_ROWS * STEPS_ROOM;
 
 // What is to be printed: the first `length` bytes.
-#[derive(Drop)]
+#[derive(Clone, Copy)]
 pub struct Printout {
     pub bytes: [u8; ROOM],
     pub length: usize,

@@ -7,7 +7,7 @@ use outcome::is_refused;
 use register::{Filed, Register};
 
 // What filing W gives, and what filing W without its last byte does.
-#[derive(Drop)]
+#[derive(Clone, Copy)]
 pub struct Filings {
     pub whole: Filed,
     pub cut: Filed,

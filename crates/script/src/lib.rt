@@ -18,7 +18,7 @@ use rows::STARTS;
 use said::{Change, Said};
 
 // The register after a line, and the response.
-#[derive(Drop)]
+#[derive(Clone, Copy)]
 pub struct Responded {
     pub register: Register,
     pub response: Response,

@@ -20,7 +20,7 @@ use std::rt::Files;
 const KEPT: usize = 301;
 
 // A register, and what has come of the line that has not ended: its first bytes.
-#[derive(Drop)]
+#[derive(Clone, Copy)]
 pub struct Desk {
     register: Register,
     line: [u8; KEPT],
@@ -28,7 +28,7 @@ pub struct Desk {
 }
 
 // What serving a piece of input gives: the desk after it, how many bytes of the piece it took, and how many bytes it printed.
-#[derive(Drop)]
+#[derive(Clone, Copy)]
 pub struct Served {
     pub desk: Desk,
     pub taken: usize,
