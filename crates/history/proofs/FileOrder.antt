@@ -5,7 +5,7 @@ use mathlib.Core.Bool.{Bool, true, false, cond, ◌&&◌}
 use mathlib.Core.List.{List, [], ◌∷◌}
 use mathlib.Core.Logic.Iff
 use mathlib.Core.Option.{Option, none, some}
-use mathlib.Core.Path.{◌≡◌, refl, sym, ap, ap₂, subst, ◌∙◌}
+use mathlib.Core.Path.{◌≡◌, refl, sym, ap, subst, ◌∙◌}
 use lib.ListN.{length}
 use Rattle.outcome.specs.declared.Outcome.{Outcome}
 use Rattle.outcome.specs.declared.Outcome.TheVariants.{Accepted, Refused}
@@ -43,9 +43,9 @@ use Rattle.register.specs.Filing.{with_model, holding_numbers, received, deliver
 use Rattle.register.specs.Merging.{merge_by, merge_delivery}
 use Rattle.register.specs.Questions.{upper_in, lower_in, mean_in, margin_in, live_in, within_in}
 use Rattle.history.specs.Plain.{Pair, last_model, last_delivery, pair_of, of_model, of_delivery, by_verdict, mark_of, merged_with, plain_reply}
-use Rattle.history.specs.Run.{reply_of, register_after, history, replies, holding, register_of}
-use Rattle.history.specs.FileOrder.{numbers_by_file, merged_by_file, delivery_by_file, file_delivery_by_file, merge_by_file, merge_delivery_by_file, upper_by_file, lower_by_file, after_by_file, reply_by_file, register_by_file, replies_by_file}
-use Rattle.history.specs.ByExit.{SameAnswers, SameAnswersInTime}
+use Rattle.history.specs.Run.{reply_of, history, holding, register_of}
+use Rattle.history.specs.FileOrder.{numbers_by_file, merged_by_file, delivery_by_file, file_delivery_by_file, merge_by_file, merge_delivery_by_file, upper_by_file, lower_by_file, after_by_file, reply_by_file, register_by_file}
+use Rattle.history.specs.ByExit.{SameAnswers}
 use Rattle.history.proofs.Same.{same_listed}
 use Rattle.history.proofs.Pairs.{Right, WayOfHolding, as_held, model_there, file_there, model_filed, model_next, counter_filed, counter_next, few_entries, held_length, model_right, model_held_lem, delivery_by_verdict, merge_by_verdict, joined_is, cleared_holds, mark_taken, pair_after}
 use Rattle.history.proofs.Plain.{holds_pair, right_pair, as_plain_pair}
@@ -311,12 +311,3 @@ same_answers cs c =
     ap (λ r. reply_of r c) (holds_pair cs)
     ∙ sym (reply_alike (last_model (history cs)) (last_delivery (history cs)) (right_pair cs) c)
     ∙ sym (ap (λ r. reply_by_file r c) (pair_by_file cs))
-
-from_here : (past cs : List Call) → replies (register_after past) cs ≡ replies_by_file (register_by_file past) cs
-unfolding replies replies_by_file register_after register_by_file
-from_here past [] = refl
-from_here past (c ∷ cs) = ap₂ ◌∷◌ (same_answers past c) (from_here (c ∷ past) cs)
-
-pub same_answers_in_time : (cs : List Call) → SameAnswersInTime cs
-unfolding register_after register_by_file
-same_answers_in_time cs = from_here [] cs

@@ -7,6 +7,7 @@ pub mod Plain
 pub mod Known
 pub mod Replies
 pub mod FileOrder
+pub mod InTime
 pub mod ByExit
 pub mod Named
 pub mod Merges

@@ -12,7 +12,7 @@ use Rattle.model.specs.Records.{states_of}
 use Rattle.model.specs.Rules.{rules_of}
 use Rattle.onecounter.specs.Moves.{after_moves, weigh_moves}
 use Rattle.onecounter.specs.Passage.{over_moves, over_moves_within, first_passage}
-use Rattle.onecounter.specs.Promised.{PassageUpper, PassageLower, PassageMean, PassageTail}
+use Rattle.onecounter.specs.Promised.{PassageUpper, PassageLower, PassageMean}
 use Rattle.onecounter.specs.Edges.{queue}
 use Rattle.onecounter.proofs.Edges.{upper_bites, lower_bites, lower_bites_without_margin, mean_bites, no_figure}
 use Rattle.counter.specs.Edges.{queue_file}
