@@ -1,4 +1,4 @@
-// The calls for C hosts, on byte slices. include/bounds.h declares them.
+// The calls that C hosts have, on byte slices. Crate bounds_c exports them.
 #![tactic(auto)]
 
 ghost use Rattle.std.specs.Prelude.{◌≡◌, ◌<◌};
@@ -22,16 +22,14 @@ fn code(outcome: Outcome) -> u32
 }
 
 // Checks a model.
-#[unsafe(no_mangle)]
-pub extern "C" fn bounds_check_model(model: &[u8]) -> u32
+pub fn bounds_check_model(model: &[u8]) -> u32
     ensures { result ≡ code_of (model_verdict model.now) }
 {
     code(wellformed::check(model))
 }
 
 // Checks a delivery with its model, which is tested first. (It calls the two checks itself, and not the one check of both: a call fewer.)
-#[unsafe(no_mangle)]
-pub extern "C" fn bounds_check_delivery(model: &[u8], delivery: &[u8]) -> u32
+pub fn bounds_check_delivery(model: &[u8], delivery: &[u8]) -> u32
     ensures { result ≡ code_of (verdict model.now delivery.now) }
 {
     let found = wellformed::check(model);
@@ -42,8 +40,7 @@ pub extern "C" fn bounds_check_delivery(model: &[u8], delivery: &[u8]) -> u32
 }
 
 // The shortfall of the same check: 0 when accepted.
-#[unsafe(no_mangle)]
-pub extern "C" fn bounds_delivery_shortfall(model: &[u8], delivery: &[u8]) -> i64
+pub fn bounds_delivery_shortfall(model: &[u8], delivery: &[u8]) -> i64
     ensures { result ≡ shortfall_of (verdict model.now delivery.now) }
 {
     let found = wellformed::check(model);
