@@ -163,7 +163,7 @@ def missing(block, word):
     if THEOREM.fullmatch(word):
         return None if anywhere("proofs", word) or anywhere("specs", word) else "no such theorem, nor a field of a statement"
     if SPELT.fullmatch(word):
-        return None if any(anywhere(part, word) for part in ("specs", "proofs", "src")) else "no such definition or theorem, nor in the code"
+        return None if word in CRATES or any(anywhere(part, word) for part in ("specs", "proofs", "src")) else "no such definition or theorem, nor in the code"
     if CONSTANT.fullmatch(word):
         return None if anywhere("src", word) else "not in the code"
     return definition_missing(block, word) if DEFINITION.fullmatch(word) else None
