@@ -3,7 +3,7 @@
 A word is checked by its form: a path, a must-fail edit, a path of code (`a::b`), a definition, a theorem, a statement's field or code (with underscores), a constant (capitals alone), a
 type (with a capital first), a name of an older spelling (with hyphens, or a capital inside). A word of no such form, such as a value or a plain word, is checked where the document says which file or
 crate it stands in: `name` (`file`), `name` of `file`, (`name`, `file`), a list after a folder, a column "stands in" or "its calls". Of a command line only
-its paths are checked. What describes the past (CHANGELOG.md, docs/changes/, docs/PORT.md) is not checked: names there may have gone. The table of crates has each crate
+its paths are checked. What describes the past (CHANGELOG.md, docs/changes/, docs/PORT.md, docs/DESIGN-PASS.md) is not checked: names there may have gone. The table of crates has each crate
 of crates.txt, in its order, every rule that docs/RULES.md names has one line there, and docs/READING.md lists every file of definitions to believe.
 """
 import re
@@ -283,7 +283,7 @@ def unlisted(text):
 
 
 def main():
-    documents = [ROOT / "README.md", ROOT / "CONTRIBUTING.md", *(page for page in sorted((ROOT / "docs").glob("*.md")) if page.name != "PORT.md")]
+    documents = [ROOT / "README.md", ROOT / "CONTRIBUTING.md", *(page for page in sorted((ROOT / "docs").glob("*.md")) if page.name not in ("PORT.md", "DESIGN-PASS.md"))]
     told = [wrongs(document) for document in documents]
     lines = [line for wrong, _ in told for line in wrong] + rules_wrong((ROOT / "docs/RULES.md").read_text(encoding="utf-8"))
     lines += unlisted((ROOT / "docs/READING.md").read_text(encoding="utf-8"))

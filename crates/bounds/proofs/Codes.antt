@@ -4,13 +4,11 @@ use Prim.Native.Nat.{ℕ, ◌+◌, ◌*◌, ◌/◌, ◌%◌, ◌<◌}
 use native.Mathlib.Omega.{arith}
 use mathlib.Core.List.{List}
 use mathlib.Core.Logic.{◌↔◌}
-use mathlib.Core.Path.{◌≡◌, refl}
+use mathlib.Core.Path.{◌≡◌, refl, ◌∙◌}
 use lib.IntN.{ℤ, negsuc}
 use Rattle.outcome.specs.declared.Reason.{Reason}
-use Rattle.outcome.specs.declared.Outcome.{Outcome}
-use Rattle.outcome.specs.declared.Outcome.TheVariants.{Accepted, Refused}
 use Rattle.outcome.specs.Reasons.{number_of}
-use Rattle.outcome.proofs.Numbers.{number_some, number_small}
+use Rattle.outcome.proofs.Numbers.{number_some}
 use Rattle.wellformed.specs.Verdict.{model_verdict}
 use Rattle.model.specs.W.{w_file}
 use Rattle.wellformed.proofs.Places.{model_place}
@@ -20,15 +18,18 @@ use Rattle.certificate.proofs.Edges.{edges_hold}
 use Rattle.verdict.proofs.Places.{place_fits}
 use Rattle.bounds.specs.Codes.{code_of, shortfall_of}
 use Rattle.bounds.specs.Clauses.{place_of}
+use Rattle.outcome.specs.Outcomes.{Outcome, Accepted, Refused}
+use Rattle.std.specs.Prelude.{Err, Ok, MatchResult}
+use Rattle.certificate.proofs.Steps.{model_decides}
 
 -- ---- what the number says
 
 -- 0 stands for acceptance alone.
 pub code_accepted : (o : Outcome) → (code_of o ≡ 0) ↔ (o ≡ Accepted)
-code_accepted Accepted = (λ e. refl, λ e. refl)
-code_accepted (Refused r i k) = (
-  λ e. absurd (omega (arith, number_some r)),
-  λ e. let z : ◌≡◌ {A = ℕ} 0 1 = cc in absurd (omega arith),
+code_accepted (Ok u) = (λ e. refl, λ e. refl)
+code_accepted (Err why) = (
+  λ e. absurd (omega (arith, number_some why.reason)),
+  λ e. cc,
 )
 
 -- A refusal's number and place, taken apart again.
@@ -45,8 +46,8 @@ delivery_code b d e = apart (verdict b d) e (place_fits b d _ _ _ e)
 
 -- An outcome by document 01's numbers, as one number and its shortfall.
 by_answer : (o : Outcome) {n j : ℕ} {k : ℤ} → answer_of o ≡ refused n j k → (code_of o ≡ n * 65536 + j) × (shortfall_of o ≡ k)
-by_answer Accepted e = let z : ◌≡◌ {A = ℕ} 0 1 = cc in absurd (omega arith)
-by_answer (Refused r i k) {n} {j} e = let number : number_of r ≡ n = cc in let place : i ≡ j = cc in (rw (number, place), cc)
+by_answer (Ok u) e = cc
+by_answer (Err why) {n} {j} e = let number : number_of why.reason ≡ n = cc in let place : why.place ≡ j = cc in (rw (number, place), cc)
 
 -- W with second upper 466,033: 24 at place 1, which is 1572865, and the shortfall −30064771072.
 pub w_code : (code_of (verdict w_file (w_delivery 466033 512)) ≡ 1572865) × (shortfall_of (verdict w_file (w_delivery 466033 512)) ≡ negsuc 30064771071)
@@ -54,12 +55,12 @@ w_code = by_answer (verdict w_file (w_delivery 466033 512)) edges_hold.1.1.1.1.0
 
 -- ---- how the code makes it
 
+-- The model's outcome decides where it refuses, and else the delivery's.
+pub decided : (b d : List ℕ) (o x : Outcome) → o ≡ model_verdict b → MatchResult o (λ u. x ≡ verdict b d) (λ why. x ≡ Err why) → x ≡ verdict b d
+decided b d (Ok u) x e found = found
+decided b d (Err why) x e found = found ∙ model_decides b d (Err why) e refl
+
 -- Where every refusal has its place below 65,536, so has the outcome.
 pub place_below : (o : Outcome) → ((r : Reason) (i : ℕ) (k : ℤ) → o ≡ Refused r i k → i < 65536) → place_of o < 65536
-place_below Accepted f = omega arith
-place_below (Refused r i k) f = f r i k refl
-
--- Of the number n of a refusal's reason and its place i, which are small.
-pub code_made : (o : Outcome) {r : Reason} {i n : ℕ} {k : ℤ} → o ≡ Refused r i k → place_of o < 65536 → n ≡ number_of r
-    → (n < 64) × (i < 65536) × (n * 65536 + i ≡ code_of o)
-code_made o {r} e below number = (omega (arith, number_small r), rw e at below, rw (e, number))
+place_below (Ok u) f = omega arith
+place_below (Err why) f = f why.reason why.place why.shortfall refl

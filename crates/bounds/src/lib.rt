@@ -8,7 +8,7 @@ ghost use Rattle.bounds.specs.Codes.{code_of, shortfall_of};
 ghost use Rattle.bounds.specs.Clauses.{place_of};
 
 use certificate::beside;
-use outcome::{Outcome, number};
+use outcome::{Outcome, Refusal};
 
 // An outcome as one number: the reason's number × 65,536 + place, or 0 when accepted.
 fn code(outcome: Outcome) -> u32
@@ -16,8 +16,8 @@ fn code(outcome: Outcome) -> u32
     ensures { result ≡ code_of outcome }
 {
     match outcome {
-        Outcome::Accepted => 0,
-        Outcome::Refused { reason, place, .. } => number(reason) * 65536 + place as u32,
+        Ok(()) => 0,
+        Err(Refusal { reason, place, .. }) => u32::from(reason) * 65536 + place as u32,
     }
 }
 
@@ -32,23 +32,15 @@ pub fn bounds_check_model(model: &[u8]) -> u32
 pub fn bounds_check_delivery(model: &[u8], delivery: &[u8]) -> u32
     ensures { result ≡ code_of (verdict model.now delivery.now) }
 {
-    let found = wellformed::check(model);
-    if let Outcome::Refused { .. } = found {
-        return code(found);
-    }
-    code(beside::check(model, delivery))
+    code(wellformed::check(model).and_then(|()| beside::check(model, delivery)))
 }
 
 // The shortfall of the same check: 0 when accepted.
 pub fn bounds_delivery_shortfall(model: &[u8], delivery: &[u8]) -> i64
     ensures { result ≡ shortfall_of (verdict model.now delivery.now) }
 {
-    let found = wellformed::check(model);
-    if let Outcome::Refused { shortfall, .. } = found {
-        return shortfall;
-    }
-    match beside::check(model, delivery) {
-        Outcome::Accepted => 0,
-        Outcome::Refused { shortfall, .. } => shortfall,
+    match wellformed::check(model).and_then(|()| beside::check(model, delivery)) {
+        Ok(()) => 0,
+        Err(Refusal { shortfall, .. }) => shortfall,
     }
 }

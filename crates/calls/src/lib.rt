@@ -1,18 +1,20 @@
 // What the calls on a register answer, and in which order the reasons of a question come.
 #![tactic(auto)]
 
-ghost use Rattle.std.specs.Prelude.{◌≡◌, pos};
+ghost use Rattle.std.specs.Prelude.{◌≡◌};
 ghost use Rattle.calls.specs.Answers.{answered_or, answered};
 
-use outcome::Reason;
+use outcome::{Reason, Refusal, refused};
 
-// The mark of an accepted delivery; absent where none was accepted.
+// The mark of an accepted delivery.
 #[derive(Clone, Copy)]
 pub enum Mark {
     Known,
     New,
-    Absent,
 }
+
+// What filing a delivery, or merging it, answers: its mark, or a refusal.
+pub type Receipt = Result<Mark, Refusal>;
 
 // A question: on an entry, on a row, or on the whole; and on an entry's chance within so many steps.
 #[derive(Clone, Copy)]
@@ -46,26 +48,7 @@ pub enum Question {
 }
 
 // The answer to a question: a number, or a refusal.
-#[derive(Clone, Copy)]
-pub enum Answer {
-    Value(u64),
-    Refused {
-        reason: Reason,
-        place: usize,
-        shortfall: i64,
-    },
-}
-
-// A refusal found in the register: its place and its shortfall are 0.
-fn refused(reason: Reason) -> Answer
-    ensures { result ≡ Answer.Refused reason 0 (pos 0) }
-{
-    Answer::Refused {
-        reason,
-        place: 0,
-        shortfall: 0,
-    }
-}
+pub type Answer = Result<u64, Refusal>;
 
 // The answer to a question: the first reason that applies, by whether a model is held, whether a delivery is held, whether the states and
 // symbols are the model's and whether the question's own last test passes, which has its own reason; or the number.
@@ -80,18 +63,18 @@ pub fn answered_or(
     ensures { result ≡ answered_or model delivery inside last reason value }
 {
     if !model {
-        return refused(Reason::NoModel);
+        return refused(Reason::NoModel, 0);
     }
     if !delivery {
-        return refused(Reason::NoDelivery);
+        return refused(Reason::NoDelivery, 0);
     }
     if !inside {
-        return refused(Reason::NotOfModel);
+        return refused(Reason::NotOfModel, 0);
     }
     if !last {
-        return refused(reason);
+        return refused(reason, 0);
     }
-    Answer::Value(value)
+    Ok(value)
 }
 
 // The same for a question whose last test is whether the block stands.

@@ -6,7 +6,7 @@ use std::rt::Files;
 // How many cases are stored.
 const CASES: u32 = 77;
 
-// The last digit of n, in ASCII.
+// The last digit of n, in ASCII. (A name that needs no memory is made of its bytes.)
 fn digit(n: u32) -> u8 {
     48 + (n % 10) as u8
 }

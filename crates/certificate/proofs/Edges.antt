@@ -4,7 +4,6 @@ use mathlib.Core.Bool.{false}
 use mathlib.Core.List.{List, [], ◌∷◌, ◌++◌, map}
 use lib.Dec.{lit<}
 use mathlib.Core.Path.{◌≡◌, refl}
-use Rattle.outcome.specs.declared.Outcome.TheVariants.{Accepted}
 use Rattle.walks.specs.Lists.{list_to, each}
 use Rattle.outcome.specs.Tests.{first}
 use Rattle.words.specs.Words.{word_at}
@@ -37,6 +36,7 @@ use Rattle.certificate.specs.Edges.{one_rule, z_to_z, AllHold, w_delivery, edges
 use Rattle.model.proofs.Accepted.{is_model_lem}
 use Rattle.wellformed.proofs.Accepted.{model_accepted}
 use Rattle.verdict.proofs.Accepted.{dead_exactly}
+use Rattle.outcome.specs.Outcomes.{Accepted}
 
 -- An entry of an accepted model is dead where its mark says so.
 dead : (b : List ℕ) (p z q : ℕ) → model_verdict b ≡ Accepted → p < states_of b → z < symbols_of b → q < states_of b

@@ -1,12 +1,9 @@
 -- Mission point 3 for files: what an accepted delivery says is true of the runs of its model. An accepted file makes the claims that the
 -- theorems of crate ppda take.
 use Prim.Native.Nat.{ℕ, ◌<◌}
-use native.Mathlib.Omega.{arith}
 use mathlib.Core.Bool.{Bool, true, false, cond}
 use mathlib.Core.List.{List}
 use mathlib.Core.Path.{◌≡◌, refl}
-use Rattle.outcome.specs.declared.Outcome.{Outcome}
-use Rattle.outcome.specs.declared.Outcome.TheVariants.{Accepted, Refused}
 use Rattle.ppda.specs.Rules.{IsModel}
 use Rattle.ppda.specs.Bounds as Bounds
 use Rattle.ppda.specs.Bounds.{LowersHold}
@@ -18,16 +15,15 @@ use Rattle.model.specs.Records.{states_of, symbols_of}
 use Rattle.model.specs.Rules.{rules_of}
 use Rattle.model.proofs.Accepted.{is_model_lem}
 use Rattle.delivery.specs.declared.shape.Shape.{Shape}
-use Rattle.delivery.specs.declared.shape.Shaped.{Shaped}
-use Rattle.delivery.specs.declared.shape.Shaped.TheVariants.{Of, Unknown}
 use Rattle.delivery.specs.Shapes.{has_lowers, has_means, shape_of}
 use Rattle.delivery.specs.Numbers.{uppers_of, lowers_of, means_of}
 use Rattle.verdict.specs.Verdict.{verdict}
 use Rattle.verdict.specs.Accepted.{RightFiles}
-use Rattle.certificate.specs.declared.answer.Margin.TheVariants.{Shown, Absent}
 use Rattle.certificate.specs.Margin.{margin_of, shown_by, shown_margin}
 use Rattle.certificate.specs.Promised.{TrueFor, TrueOfRuns}
 use Rattle.verdict.proofs.Accepted.{live_exactly, dead_exactly, delivery_accepted}
+use Rattle.outcome.specs.Outcomes.{Outcome, Accepted}
+use Rattle.std.specs.Prelude.{Option, Some, None, Err, Ok}
 
 -- ---- what accepted files claim
 
@@ -78,7 +74,7 @@ pub accepted_true : (b d : List ℕ) → verdict b d ≡ Accepted → TrueOfRuns
 accepted_true b d accepted = right_true b d ((delivery_accepted b d).0 accepted)
 
 -- The same by the shape of the file.
-pub true_of_shape : (b d : List ℕ) (h : Shape) → verdict b d ≡ Accepted → shape_of (states_of b) (symbols_of b) d ≡ Of h
+pub true_of_shape : (b d : List ℕ) (h : Shape) → verdict b d ≡ Accepted → shape_of (states_of b) (symbols_of b) d ≡ Some h
     → TrueFor b d (states_of b) (symbols_of b) h
 true_of_shape b d h accepted shape =
     let holds = accepted_true b d accepted in
@@ -86,31 +82,31 @@ true_of_shape b d h accepted shape =
     rw same at holds.bounds
 
 -- The tail of request A.7, written out: of every row of the model, by the figure of the file.
-pub tail_of_files : (b d : List ℕ) (h : Shape) → verdict b d ≡ Accepted → shape_of (states_of b) (symbols_of b) d ≡ Of h → has_means h ≡ true
+pub tail_of_files : (b d : List ℕ) (h : Shape) → verdict b d ≡ Accepted → shape_of (states_of b) (symbols_of b) d ≡ Some h → has_means h ≡ true
     → (p z : ℕ) → p < states_of b → z < symbols_of b → Bounds.TailHolds (rules_of b) (states_of b) p z (means_of (states_of b) (symbols_of b) h d p z)
 tail_of_files b d h accepted shape = (true_of_shape b d h accepted shape).tails
 
 -- ---- the margin that is shown
 
 -- A margin is shown of an accepted delivery whose shape has lowers, and it is that of the delivery's uppers.
-shown_by_lem : (o : Outcome) (t : Shaped) (a m : ℕ) → shown_by o t a ≡ Shown m
-    → (h : Shape) × (o ≡ Accepted) × (t ≡ Of h) × (has_lowers h ≡ true) × (a ≡ m)
-shown_by_lem Accepted (Of h) a m e = go (has_lowers h) refl e
+shown_by_lem : (o : Outcome) (t : Option Shape) (a m : ℕ) → shown_by o t a ≡ Some m
+    → (h : Shape) × (o ≡ Accepted) × (t ≡ Some h) × (has_lowers h ≡ true) × (a ≡ m)
+shown_by_lem (Ok u) (Some h) a m e = go (has_lowers h) refl e
   where
-    go : (t : Bool) → has_lowers h ≡ t → cond t (Shown a) Absent ≡ Shown m
-        → (k : Shape) × (Accepted ≡ Accepted) × (Of h ≡ Of k) × (has_lowers k ≡ true) × (a ≡ m)
+    go : (t : Bool) → has_lowers h ≡ t → cond t (Some a) None ≡ Some m
+        → (k : Shape) × (Accepted ≡ Accepted) × (Some h ≡ Some k) × (has_lowers k ≡ true) × (a ≡ m)
     go true q e = (h, refl, refl, q, cc)
-    go false q e = let z : ◌≡◌ {A = ℕ} 0 1 = cc in absurd (omega arith)
-shown_by_lem Accepted Unknown a m e = let z : ◌≡◌ {A = ℕ} 0 1 = cc in absurd (omega arith)
-shown_by_lem (Refused r i k) t a m e = let z : ◌≡◌ {A = ℕ} 0 1 = cc in absurd (omega arith)
+    go false q e = cc
+shown_by_lem (Ok u) None a m e = cc
+shown_by_lem (Err why) t a m e = cc
 
-pub shown_margin_lem : (b d : List ℕ) (m : ℕ) → shown_margin b d ≡ Shown m
-    → (h : Shape) × (verdict b d ≡ Accepted) × (shape_of (states_of b) (symbols_of b) d ≡ Of h) × (has_lowers h ≡ true) × (margin_of b d ≡ m)
+pub shown_margin_lem : (b d : List ℕ) (m : ℕ) → shown_margin b d ≡ Some m
+    → (h : Shape) × (verdict b d ≡ Accepted) × (shape_of (states_of b) (symbols_of b) d ≡ Some h) × (has_lowers h ≡ true) × (margin_of b d ≡ m)
 unfolding shown_margin
 shown_margin_lem b d m = shown_by_lem (verdict b d) (shape_of (states_of b) (symbols_of b) d) (margin_of b d) m
 
 -- The lowers by the margin that is shown.
-pub lower_by_shown_margin : (b d : List ℕ) (m : ℕ) → shown_margin b d ≡ Shown m
+pub lower_by_shown_margin : (b d : List ℕ) (m : ℕ) → shown_margin b d ≡ Some m
     → LowersHold (rules_of b) (states_of b) (symbols_of b) (uppers_of (states_of b) (symbols_of b) d) (lowers_of (states_of b) (symbols_of b) d) m
 lower_by_shown_margin b d m shown =
     let (h, accepted, shape, has, same) = shown_margin_lem b d m shown in

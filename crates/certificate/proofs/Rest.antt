@@ -9,7 +9,6 @@ use lib.ListN.{length, take, drop, length-drop}
 use lib.Seq.{drop-drop}
 use Rattle.ppda.specs.Units.{most_chance, most_mean}
 use Rattle.delivery.specs.Format.{record_bytes}
-use Rattle.outcome.specs.declared.Outcome.TheVariants.{Accepted}
 use Rattle.outcome.specs.Tests.{first}
 use Rattle.ppda.specs.Rules.{IsModel}
 use Rattle.ppda.specs.Equations.{Vector, SameRows, Same}
@@ -18,7 +17,6 @@ use Rattle.model.specs.Rules.{rules_of}
 use Rattle.walks.proofs.Places.{row_split}
 use Rattle.walks.proofs.Exits.{file_ordered, at_places}
 use Rattle.delivery.specs.declared.shape.Shape.{Shape}
-use Rattle.delivery.specs.declared.shape.Shaped.TheVariants.{Of}
 use Rattle.delivery.specs.Records.{value_at}
 use Rattle.delivery.specs.Shapes.{has_lowers, has_means, means_from, records_in, shape_of}
 use Rattle.walks.specs.Order.{entries_in, rows_in, entry_at, row_at, AtEntries, AtRows}
@@ -32,6 +30,8 @@ use Rattle.verdict.specs.Verdict.{number_tests}
 use Rattle.certificate.specs.Clauses.{RestRead, means_block, rest_means, rest_tests}
 use Rattle.verdict.proofs.Accepted.{layout_right}
 use Rattle.certificate.proofs.Blocks.{itself, dead_same, below_same, upper_same, lower_same, mean_same, ends_within, part_within}
+use Rattle.outcome.specs.Outcomes.{Accepted}
+use Rattle.std.specs.Prelude.{Some}
 
 -- ---- the numbers of the rest
 
@@ -67,7 +67,7 @@ at_numbers {s} {g} P at = at_places (file_ordered s g) P at
 pub at_row_numbers : {s g : ℕ} (P : ℕ → Type 0) → AtRows s g (λ p z. P (row_at g p z)) → (e : ℕ) → e < rows_in s g → P e
 at_row_numbers {s} {g} P at e h = let (p, z, hp, hz, here) = row_split s g e h in rw here (at p z hp hz)
 
-module _ (s g : ℕ) (d : List ℕ) {h : Shape} (shape : shape_of s g d ≡ Of h) where
+module _ (s g : ℕ) (d : List ℕ) {h : Shape} (shape : shape_of s g d ≡ Some h) where
   pub uppers_within : AtEntries s g (λ p z q. uppers_of s g d p z q ≤ most_chance) → Within (take (record_bytes * entries_in s g) d) (entries_in s g) most_chance
   unfolding uppers_of
   uppers_within most = part_within d (entries_in s g) most_chance (uppers_fit s g d h shape) (at_numbers (λ e. value_at d e ≤ most_chance) most)

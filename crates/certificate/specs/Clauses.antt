@@ -1,7 +1,6 @@
 -- Every test of numbers after that of dead uppers, by the rest of the file: its part from record V on, which the lower and mean-step checks
 -- take; and the parts in which the code takes them. `uppers_of` reads the first V values of any bytes, so of the rest it reads the lowers.
-use Rattle.std.specs.Prelude.{ℕ, ◌*◌, Bool, true, cond, List, ◌++◌, ◌≡◌, take, drop}
-use Rattle.outcome.specs.declared.Outcome.TheVariants.{Accepted}
+use Rattle.std.specs.Prelude.{ℕ, ◌*◌, Bool, true, cond, List, ◌++◌, ◌≡◌, take, drop, Some}
 use Rattle.outcome.specs.Tests.{Test, first}
 use Rattle.ppda.specs.Units.{most_chance, most_mean}
 use Rattle.walks.specs.Order.{entries_in, rows_in}
@@ -10,7 +9,6 @@ use Rattle.model.specs.declared.sizes.Sizes.{Sizes}
 use Rattle.model.specs.Rules.{rules_of}
 use Rattle.model.specs.Clauses.{Sized}
 use Rattle.delivery.specs.declared.shape.Shape.{Shape}
-use Rattle.delivery.specs.declared.shape.Shaped.TheVariants.{Of}
 use Rattle.delivery.specs.Format.{record_bytes}
 use Rattle.delivery.specs.Shapes.{has_lowers, has_means, means_from, shape_of}
 use Rattle.delivery.specs.Numbers.{uppers_of}
@@ -20,13 +18,14 @@ use Rattle.rows.specs.Clauses.{Indexed}
 use Rattle.live.specs.Clauses.{exit_marks}
 use Rattle.inequalities.specs.Inequalities.{dead_tests, upper_tests, below_tests, lower_tests, mean_tests}
 use Rattle.verdict.specs.Verdict.{verdict}
+use Rattle.outcome.specs.Outcomes.{Accepted}
 
 -- ---- what the functions ask
 
 -- A file of shape h for an accepted model, with its sizes.
 pub record SizedFile (b : List ℕ) (n : Sizes) (h : Shape) (d : List ℕ) : Type 0 where
   pub sized : Sized b n.states n.symbols
-  pub of : shape_of n.states n.symbols d ≡ Of h
+  pub of : shape_of n.states n.symbols d ≡ Some h
 
 -- The same with a right layout.
 pub record LaidOut (b : List ℕ) (n : Sizes) (h : Shape) (d : List ℕ) : Type 0 where

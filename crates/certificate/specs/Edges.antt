@@ -1,17 +1,15 @@
 -- The starred edges of document 01 ("Edges"), as one table of cases over the definitions; and tables of margins, of bad input, of files that fail
 -- twice, of the ends of ranges and numbers, of the order of files, and of numbers that just pass. Outcomes stand by document 01's numbers.
-use Rattle.std.specs.Prelude.{ℕ, List, [], ◌∷◌, ◌++◌, ◌≡◌, ℤ, pos, negsuc, take, replicate}
-use Rattle.outcome.specs.declared.Outcome.{Outcome}
-use Rattle.outcome.specs.declared.Outcome.TheVariants.{Accepted, Refused}
+use Rattle.std.specs.Prelude.{ℕ, List, [], ◌∷◌, ◌++◌, ◌≡◌, ℤ, pos, negsuc, take, replicate, Some, Err, Ok}
 use Rattle.outcome.specs.Reasons.{number_of}
 use Rattle.ppda.specs.Live.{Live}
 use Rattle.model.specs.Rules.{rules_of}
 use Rattle.model.specs.Made.{model_record}
 use Rattle.model.specs.W.{w_file}
 use Rattle.delivery.specs.Made.{delivery_record}
-use Rattle.certificate.specs.declared.answer.Margin.TheVariants.{Shown}
 use Rattle.verdict.specs.Verdict.{verdict}
 use Rattle.certificate.specs.Margin.{shown_margin}
+use Rattle.outcome.specs.Outcomes.{Outcome}
 
 -- An outcome by document 01's numbers.
 pub data DueAnswer : Type 0 where
@@ -19,8 +17,8 @@ pub data DueAnswer : Type 0 where
   refused : (number place : ℕ) (shortfall : ℤ) → DueAnswer
 
 abbrev pub answer_of : Outcome → DueAnswer
-answer_of Accepted = accepted
-answer_of (Refused r i k) = refused (number_of r) i k
+answer_of (Ok u) = accepted
+answer_of (Err why) = refused (number_of why.reason) why.place why.shortfall
 
 -- What a case claims of a model and a delivery: the verdict, the margin shown, or that an entry of the model is dead: no run empties the
 -- stack there.
@@ -36,7 +34,7 @@ pub record Case : Type 0 where
 
 abbrev pub Claimed : List ℕ → List ℕ → Claim → Type 0
 Claimed b d (verdict_is o) = answer_of (verdict b d) ≡ o
-Claimed b d (margin_is m) = shown_margin b d ≡ Shown m
+Claimed b d (margin_is m) = shown_margin b d ≡ Some m
 Claimed b d (is_dead p z q) = Live (rules_of b) p z q → ⊥
 
 -- Every case of the table holds.

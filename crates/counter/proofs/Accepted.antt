@@ -9,7 +9,6 @@ use mathlib.Core.Path.{◌≡◌, refl, sym, ◌∙◌}
 use lib.Dec.{eqb, leb, ltb}
 use lib.ListN.{length}
 use borrow.Author.Tests.{eqb-true, not-false, eq-eqb}
-use Rattle.outcome.specs.declared.Outcome.TheVariants.{Accepted}
 use Rattle.outcome.specs.Tests.{first, Passed}
 use Rattle.walks.specs.Lists.{each}
 use Rattle.walks.proofs.Exactly.{lt_exactly, le_exactly, eq_exactly, both, not_exactly}
@@ -25,6 +24,7 @@ use Rattle.counter.specs.Moves.{move_of, moves_of}
 use Rattle.counter.specs.Verdict.{whole_moves, move_in_range, move_ascends, move_tests, state_sum, state_tests, counter_tests, counter_verdict}
 use Rattle.counter.specs.Accepted.{MoveRight, MovesRight, CounterFile}
 use Rattle.counter.proofs.Records.{from_below, to_below, state_sum_is}
+use Rattle.outcome.specs.Outcomes.{Accepted}
 
 -- ---- tests and what they say
 

@@ -6,7 +6,6 @@ use mathlib.Core.List.{List, [], ◌∷◌, ◌++◌}
 use mathlib.Core.Logic.{inl, inr}
 use mathlib.Core.Path.{◌≡◌, refl, sym, ap, ap₂, ◌∙◌}
 use lib.ListN.{get_or}
-use Rattle.outcome.specs.declared.Outcome.TheVariants.{Accepted}
 use Rattle.walks.specs.Sums.{In, greatest_to}
 use Rattle.walks.specs.Lists.{list_to}
 use Rattle.walks.proofs.Sums.{greatest_cong, greatest_most}
@@ -31,6 +30,7 @@ use Rattle.counter.specs.Accepted.{MovesRight, CounterFile}
 use Rattle.counter.specs.Made.{counter_model}
 use Rattle.counter.specs.Clauses.{record_made}
 use Rattle.counter.proofs.Accepted.{counter_accepted}
+use Rattle.outcome.specs.Outcomes.{Accepted}
 
 -- The rule of record i, and the file made of the rules of the first n records.
 abbrev pub rule_made : List ℕ → ℕ → Rule

@@ -5,10 +5,9 @@ use native.Mathlib.Omega.{arith}
 use mathlib.Core.Bool.{Bool}
 use mathlib.Core.List.{List, [], ◌∷◌, ◌++◌}
 use mathlib.Core.Logic.{◌⊎◌, inl, inr}
-use mathlib.Core.Path.{◌≡◌, refl, sym, ◌∙◌}
+use mathlib.Core.Path.{◌≡◌, refl, sym, ap, ◌∙◌}
 use lib.IntN.{ℤ, pos}
 use Rattle.outcome.specs.declared.Reason.{Reason}
-use Rattle.outcome.specs.declared.Outcome.TheVariants.{Refused}
 use Rattle.outcome.specs.Reasons.{number_of}
 use Rattle.outcome.specs.Tests.{Test, plain, FirstFailure}
 use Rattle.outcome.proofs.Tests.{first_failure, Refusals, refusals_none, refusals_cons, refusals_append, refusals_each}
@@ -17,6 +16,8 @@ use Rattle.walks.specs.Lists.{each}
 use Rattle.walks.proofs.Lists.{in_append_right, in_append_cases}
 use Rattle.counter.specs.Records.{moves_in, states_in}
 use Rattle.counter.specs.Verdict.{move_tests, state_tests, counter_tests, counter_verdict}
+use Rattle.outcome.specs.declared.Refusal.{Refusal}
+use Rattle.outcome.specs.Outcomes.{Refused}
 
 -- ---- number and place
 
@@ -41,7 +42,7 @@ counter_places c =
 -- The number is one of 46 to 48.
 pub counter_number : (c : List ℕ) (r : Reason) (i : ℕ) (k : ℤ) → counter_verdict c ≡ Refused r i k → (46 ≤ number_of r) × (number_of r ≤ 48)
 unfolding counter_verdict
-counter_number c r i k e = let x = (counter_places c).refused r i k e in (x.least, x.number)
+counter_number c r i k e = let x = (counter_places c).refused _ e in (x.least, x.number)
 
 -- ---- shortfall
 
@@ -81,6 +82,6 @@ failing_in {ts} {t} x = rw x.split (in_append_right t x.before (t ∷ x.after) (
 pub counter_shortfall : (c : List ℕ) (r : Reason) (i : ℕ) (k : ℤ) → counter_verdict c ≡ Refused r i k → k ≡ pos 0
 unfolding counter_verdict
 counter_shortfall c r i k e =
-    let (t, (found, same)) = first_failure (counter_tests c) r i k e in
-    let shortfall : t.shortfall ≡ k = cc in
-    sym shortfall ∙ (counter_plain c).zero t (failing_in found)
+    let (t, (found, same)) = first_failure (counter_tests c) _ e in
+    let is : ◌≡◌ {A = Refusal} (record { reason = t.reason; place = t.place; shortfall = t.shortfall }) (record { reason = r; place = i; shortfall = k }) = cc in
+    sym (ap (λ (w : Refusal). w.shortfall) is) ∙ (counter_plain c).zero t (failing_in found)

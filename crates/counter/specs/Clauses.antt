@@ -1,18 +1,14 @@
 -- What functions over a counter file ask and leave.
-use Rattle.std.specs.Prelude.{ℕ, ◌+◌, ◌*◌, ◌≤◌, Bool, ◌&&◌, ◌||◌, List, ◌≡◌, eqb, ltb, length, take}
+use Rattle.std.specs.Prelude.{ℕ, ◌+◌, ◌*◌, ◌≤◌, List, ◌≡◌, length, take}
 use Rattle.model.specs.Format as model
 use Rattle.model.specs.Made.{model_record}
 use Rattle.counter.specs.Format.{record_bytes, most_records}
-use Rattle.counter.specs.Records.{byte_in, from_at, to_at, shift_at, weight_in}
+use Rattle.counter.specs.Records.{from_at, to_at, shift_at, weight_in}
 use Rattle.counter.specs.Made.{counter_model}
 
 -- Record i is whole in the file.
 abbrev pub HasMove : List ℕ → ℕ → Type 0
 HasMove c i = record_bytes * (i + 1) ≤ length c
-
--- One step of the order in which records ascend, at byte k of records i + 1 and i: greater there, or the same and the rest lies above.
-abbrev pub later_move : List ℕ → ℕ → ℕ → Bool → Bool
-later_move c i k rest = ltb (byte_in c i k) (byte_in c (i + 1) k) || (eqb (byte_in c (i + 1) k) (byte_in c i k) && rest)
 
 -- The ten bytes of the model record that record i makes.
 abbrev pub record_made : List ℕ → ℕ → List ℕ

@@ -3,10 +3,9 @@
 use Rattle.std.specs.Prelude.{ℕ, List, [], ◌∷◌, ◌++◌, pos, replicate}
 use Rattle.outcome.specs.declared.Reason.{Reason}
 use Rattle.outcome.specs.declared.Reason.TheVariants.{CounterLength, CounterRecord, CounterSum}
-use Rattle.outcome.specs.declared.Outcome.{Outcome}
-use Rattle.outcome.specs.declared.Outcome.TheVariants.{Accepted, Refused}
 use Rattle.counter.specs.Verdict.{counter_verdict}
 use Rattle.counter.specs.Made.{counter_record}
+use Rattle.outcome.specs.Outcomes.{Outcome, Accepted, Refused}
 
 pub record Case : Type 0 where
   pub file : List ℕ

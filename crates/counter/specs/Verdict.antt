@@ -1,6 +1,5 @@
 -- The verdict on a counter file: request A.2's tests 46, 47 and 48, in that order.
 use Rattle.std.specs.Prelude.{ℕ, zero, suc, ◌*◌, ◌%◌, Bool, true, not, ◌&&◌, List, [], ◌∷◌, ◌++◌, eqb, leb, ltb, length}
-use Rattle.outcome.specs.declared.Outcome.{Outcome}
 use Rattle.outcome.specs.declared.Reason.TheVariants.{CounterLength, CounterRecord, CounterSum}
 use Rattle.outcome.specs.Tests.{Test, plain, first}
 use Rattle.walks.specs.Sums.{bit, sum_to}
@@ -10,6 +9,7 @@ use Rattle.model.specs.Format.{most_states}
 use Rattle.wellformed.specs.Verdict.{above}
 use Rattle.counter.specs.Format.{record_bytes, most_shift, most_bytes}
 use Rattle.counter.specs.Records.{moves_in, from_at, to_at, shift_at, zero_at, weight_in, move_key, states_in}
+use Rattle.outcome.specs.Outcomes.{Outcome}
 
 -- A file of n bytes has whole records, at least one and at most 192.
 unfoldable pub whole_moves : ℕ → Bool

@@ -6,10 +6,11 @@ ghost use Rattle.counter.specs.Filing.{counter_outcome, file_counter};
 use super::check;
 use super::make::{MADE_BYTES, make};
 use lent::filings::is_stored;
-use outcome::{Outcome, Reason, is_refused, refused};
+use outcome::{Outcome, Reason, refused};
 use register::{Filed, Register};
 
 // The outcome of filing a counter file: the register's own reason comes before any file is read.
+#[tactic(auto, unfolding(crate::specs::Filing::counter_outcome))]
 fn counter_outcome(register: Register, file: &[u8]) -> Outcome
     ensures { result ≡ counter_outcome register file.now }
 {
@@ -20,12 +21,15 @@ fn counter_outcome(register: Register, file: &[u8]) -> Outcome
 }
 
 // Files a counter file: the register then holds the model that it makes; a refused one leaves it as it is.
+#[tactic(auto, using(crate::proofs::Filing::filing))]
 pub fn file_counter(register: Register, file: &[u8]) -> Filed
     ensures { result ≡ file_counter register file.now }
 {
-    let outcome = counter_outcome(register, file);
-    if is_refused(outcome) {
-        return Filed { register, outcome };
+    if let Err(why) = counter_outcome(register, file) {
+        return Filed {
+            register,
+            outcome: Err(why),
+        };
     }
     let mut made = [0u8; MADE_BYTES];
     let n = make(file, &mut made);
@@ -38,9 +42,8 @@ pub fn file_counter_in(held: &mut Register, file: &[u8]) -> Outcome
         × (result ≡ (file_counter held.old file.now).outcome) }
 {
     let filed = file_counter(*held, file);
-    let outcome = filed.outcome;
-    if is_stored(outcome) {
+    if is_stored(filed.outcome) {
         *held = filed.register;
     }
-    outcome
+    filed.outcome
 }

@@ -7,10 +7,10 @@ mod make; // make.rt: the model that a counter file makes
 mod record; // record.rt: one record's numbers, and its tests
 mod sums; // sums.rt: the sums of the states
 
-ghost use Rattle.std.specs.Prelude.{◌≡◌, ◌≤◌, ◌*◌, length};
+ghost use Rattle.std.specs.Prelude.{◌≡◌};
 ghost use Rattle.outcome.specs.Tests.{first};
 ghost use Rattle.walks.specs.Lists.{each};
-ghost use Rattle.counter.specs.Format.{record_bytes};
+ghost use Rattle.counter.specs.Records.{moves_in};
 ghost use Rattle.counter.specs.Verdict.{whole_moves, move_tests, counter_verdict};
 
 use format::{MOST_BYTES, RECORD_BYTES};
@@ -18,35 +18,32 @@ use outcome::{Outcome, Reason, refused};
 use record::moves;
 
 // Whether a file of n bytes has 1 to 192 whole records.
+#[tactic(auto, using(std::proofs::lemmas::Bool::Decides::nat_tests), unfolding(crate::specs::Verdict::whole_moves))]
 fn whole_moves(n: usize) -> bool
     ensures { result ≡ whole_moves n }
 {
-    (0 < n) & ((n % RECORD_BYTES == 0) & (n <= MOST_BYTES))
+    0 < n && n % RECORD_BYTES == 0 && n <= MOST_BYTES
 }
 
-// The tests of the first n records, in their order.
-fn check_moves(file: &[u8], n: usize) -> Outcome
-    requires { record_bytes * n ≤ length file.now }
-    ensures { result ≡ first (each n (move_tests file.now)) }
+// The tests of the records, in their order.
+#[tactic(auto, using(crate::proofs::Verdict::turns), unfolding(crate::specs::Records::moves_in))]
+fn check_moves(file: &[u8]) -> Outcome
+    ensures { result ≡ first (each (moves_in file.now) (move_tests file.now)) }
 {
-    for i in 0..n {
-        if !record::is_right(file, i) {
-            return refused(Reason::CounterRecord, i);
-        }
+    for i in 0..moves(file) {
+        record::check(file, i)?;
     }
-    Outcome::Accepted
+    Ok(())
 }
 
 // The verdict on any bytes as a counter file.
+#[tactic(auto, using(crate::proofs::Verdict::parts))]
 pub fn check(file: &[u8]) -> Outcome
     ensures { result ≡ counter_verdict file.now }
 {
     if !whole_moves(file.len()) {
         return refused(Reason::CounterLength, 0);
     }
-    let found = check_moves(file, moves(file));
-    if let Outcome::Refused { .. } = found {
-        return found;
-    }
+    check_moves(file)?;
     sums::check(file)
 }

@@ -1,18 +1,21 @@
 // One record of a counter file: its numbers, by the names of specs/Records.antt, and its tests.
 
-ghost use Rattle.std.specs.Prelude.{◌≡◌, ◌&&◌, ◌+◌, ◌<◌, ◌^◌};
+ghost use Rattle.std.specs.Prelude.{◌≡◌, ◌+◌, ◌<◌, ◌^◌};
+ghost use Rattle.outcome.specs.Tests.{first};
 ghost use Rattle.wellformed.specs.Verdict.{above};
 ghost use Rattle.counter.specs.Format.{record_bytes};
 ghost use Rattle.counter.specs.Records.{moves_in, byte_in, from_at, to_at, shift_at, weight_in, move_key};
-ghost use Rattle.counter.specs.Verdict.{move_in_range, move_ascends};
-ghost use Rattle.counter.specs.Clauses.{HasMove, later_move};
+ghost use Rattle.counter.specs.Verdict.{move_in_range, move_ascends, move_tests};
+ghost use Rattle.counter.specs.Clauses.{HasMove};
 
 use super::format::{
     FROM_BYTE, MOST_SHIFT, RECORD_BYTES, SHIFT_BYTE, TO_BYTE, WEIGHT_BYTE, ZERO_BYTE,
 };
 use model::format::{MOST_STATES, WEIGHT_UNIT};
+use outcome::{Outcome, Reason, refused};
 
 // How many whole records, and so moves, the file has.
+#[tactic(auto, unfolding(crate::specs::Records::moves_in))]
 pub(crate) fn moves(file: &[u8]) -> usize
     ensures { result ≡ moves_in file.now }
 {
@@ -20,6 +23,7 @@ pub(crate) fn moves(file: &[u8]) -> usize
 }
 
 // Byte k of record i.
+#[tactic(auto, unfolding(crate::specs::Records::byte_in))]
 fn byte_in(file: &[u8], i: usize, k: usize) -> usize
     requires { HasMove file.now i × (k < record_bytes) }
     ensures { (result ≡ byte_in file.now i k) × (result < 256) }
@@ -52,6 +56,7 @@ pub(crate) fn shift(file: &[u8], i: usize) -> usize
 }
 
 // The weight of record i.
+#[tactic(auto, unfolding(crate::specs::Records::weight_in))]
 pub(crate) fn weight(file: &[u8], i: usize) -> u64
     requires { HasMove file.now i }
     ensures { (result ≡ weight_in file.now i) × (result < 2 ^ 32) }
@@ -60,27 +65,24 @@ pub(crate) fn weight(file: &[u8], i: usize) -> u64
 }
 
 // Whether the states and d of record i are in range, its fourth byte is 0 and its weight is from 1 to 65,536.
+#[tactic(auto, using(std::proofs::lemmas::Bool::Decides::nat_tests), unfolding(crate::specs::Verdict::move_in_range))]
 fn in_range(file: &[u8], i: usize) -> bool
     requires { HasMove file.now i }
     ensures { result ≡ move_in_range file.now i }
 {
-    let u = from(file, i);
-    let v = to(file, i);
-    let d = shift(file, i);
-    let zero = byte_in(file, i, ZERO_BYTE);
-    let k = weight(file, i);
-    let rest = (zero == 0) & ((0 < k) & (k <= WEIGHT_UNIT));
-    (u < MOST_STATES) & ((v < MOST_STATES) & ((d <= MOST_SHIFT) & rest))
+    from(file, i) < MOST_STATES
+        && to(file, i) < MOST_STATES
+        && shift(file, i) <= MOST_SHIFT
+        && byte_in(file, i, ZERO_BYTE) == 0
+        && (1..=WEIGHT_UNIT).contains(&weight(file, i))
 }
 
-// One step of the order of records, at byte k: record i + 1 has the greater number there, or the same and the rest lies above.
-fn later(file: &[u8], i: usize, k: usize, rest: bool) -> bool
-    requires { HasMove file.now (i + 1) × (k < record_bytes) }
-    ensures { result ≡ later_move file.now i k rest }
+// (u, v, d) of record i, by which records ascend.
+fn key(file: &[u8], i: usize) -> (usize, usize, usize)
+    requires { HasMove file.now i }
+    ensures { (result.0 ≡ from_at file.now i) × (result.1 ≡ to_at file.now i) × (result.2 ≡ shift_at file.now i) }
 {
-    let a = byte_in(file, i + 1, k);
-    let b = byte_in(file, i, k);
-    (b < a) | ((a == b) & rest)
+    (from(file, i), to(file, i), shift(file, i))
 }
 
 // Whether record i + 1 lies above record i by (u, v, d).
@@ -88,26 +90,27 @@ fn lies_above(file: &[u8], i: usize) -> bool
     requires { HasMove file.now (i + 1) }
     ensures { result ≡ above (move_key file.now (i + 1)) (move_key file.now i) }
 {
-    let d = later(file, i, SHIFT_BYTE, false);
-    let v = later(file, i, TO_BYTE, d);
-    later(file, i, FROM_BYTE, v)
+    key(file, i) < key(file, i + 1)
 }
 
 // Whether record i lies above the record before it, if there is one.
+#[tactic(auto, using(crate::proofs::Verdict::ascends_first, crate::proofs::Verdict::ascends_after))]
 fn ascends(file: &[u8], i: usize) -> bool
     requires { HasMove file.now i }
     ensures { result ≡ move_ascends file.now i }
 {
-    if i == 0 {
-        return true;
-    }
-    lies_above(file, i - 1)
+    i == 0 || lies_above(file, i - 1)
 }
 
-// Whether record i passes its test.
-pub(crate) fn is_right(file: &[u8], i: usize) -> bool
+// The test of record i.
+#[tactic(auto, using(std::proofs::lemmas::Bool::Decides::nat_tests), unfolding(crate::specs::Verdict::move_tests, outcome::specs::Tests::first))]
+pub(crate) fn check(file: &[u8], i: usize) -> Outcome
     requires { HasMove file.now i }
-    ensures { result ≡ (move_in_range file.now i && move_ascends file.now i) }
+    ensures { result ≡ first (move_tests file.now i) }
 {
-    in_range(file, i) & ascends(file, i)
+    if in_range(file, i) && ascends(file, i) {
+        Ok(())
+    } else {
+        refused(Reason::CounterRecord, i)
+    }
 }

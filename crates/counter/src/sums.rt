@@ -10,7 +10,6 @@ ghost use Rattle.counter.specs.Accepted.{MovesRight};
 
 use super::record::{from, moves, to, weight};
 use model::format::{MOST_STATES, WEIGHT_UNIT};
-use model::sizes::greater;
 use outcome::{Outcome, Reason, refused};
 
 // The sum of the weights of each state.
@@ -27,18 +26,20 @@ fn sums_of(file: &[u8]) -> [u64; MOST_STATES]
 }
 
 // How many states there are: one more than the greatest that a record names, as u or as v.
+#[tactic(auto, using(walks::proofs::Sums::greatest_none, walks::proofs::Sums::greatest_step))]
 fn states(file: &[u8]) -> usize
     requires { MovesRight file.now }
     ensures { (result ≡ states_in file.now) × (result ≤ most_states) }
 {
     let mut state = 0;
     for i in 0..moves(file) {
-        state = greater(state, greater(from(file, i), to(file, i)));
+        state = state.max(from(file, i).max(to(file, i)));
     }
     state + 1
 }
 
 // The tests of the states, in their order.
+#[tactic(auto, using(crate::proofs::Verdict::sum_turns))]
 pub(crate) fn check(file: &[u8]) -> Outcome
     requires { MovesRight file.now }
     ensures { result ≡ first (each (states_in file.now) (state_tests file.now)) }
@@ -49,5 +50,5 @@ pub(crate) fn check(file: &[u8]) -> Outcome
             return refused(Reason::CounterSum, u);
         }
     }
-    Outcome::Accepted
+    Ok(())
 }

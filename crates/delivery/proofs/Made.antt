@@ -18,7 +18,6 @@ use Rattle.delivery.specs.declared.shape.Block.{Block}
 use Rattle.delivery.specs.declared.shape.Block.TheVariants.{Uppers, Lowers, Means}
 use Rattle.delivery.specs.declared.shape.Shape.{Shape}
 use Rattle.delivery.specs.declared.shape.Shape.TheVariants.{U, UL, UR, ULR}
-use Rattle.delivery.specs.declared.shape.Shaped.TheVariants.{Of}
 use Rattle.delivery.specs.Format.{record_bytes, value_byte}
 use Rattle.delivery.specs.Records.{byte_of, kind_at, state_at, symbol_at, exit_at, value_at, kind_of, least_of, most_of, is_due, in_range}
 use Rattle.delivery.specs.Shapes.{has_lowers, has_means, means_from, records_in, shape_of}
@@ -28,6 +27,7 @@ use Rattle.delivery.proofs.Shapes.{one_state_lem, shape_long, shape_found, one_s
 use Rattle.delivery.proofs.Due.{AtRecords, due_exactly, range_exactly}
 use Rattle.delivery.specs.Made.{delivery_record, entry_records, row_records, made_delivery, NumbersFit}
 use Rattle.walks.proofs.Lists.{length_each, get_d_each}
+use Rattle.std.specs.Prelude.{Some}
 
 -- ---- lists of one length, one after the other
 
@@ -247,7 +247,7 @@ module _ (s g : ℕ) (h : Shape) (u l : Vector) (r : RowVector) where
       right {k = k} st least most = (due_said st, range_said st (omega (arith, small k)) least most)
 
 -- With one state, UL and UR are equally long, and the kind of record V tells them apart.
-one_state_made : (g : ℕ) (h : Shape) (u l : Vector) (r : RowVector) → 0 < g → shape_of 1 g (made_delivery 1 g h u l r) ≡ Of h
+one_state_made : (g : ℕ) (h : Shape) (u l : Vector) (r : RowVector) → 0 < g → shape_of 1 g (made_delivery 1 g h u l r) ≡ Some h
 unfolding means_from
 one_state_made g U u l r some = one_state_alone g _ some (made_long 1 g U u l r)
 one_state_made g UL u l r some =
@@ -262,11 +262,11 @@ one_state_made g UR u l r some =
     (λ q. omega arith)
 one_state_made g ULR u l r some = one_state_both g _ some (made_long 1 g ULR u l r)
 
-pub shape_of_made : (s g : ℕ) (h : Shape) (u l : Vector) (r : RowVector) → 0 < s → 0 < g → shape_of s g (made_delivery s g h u l r) ≡ Of h
+pub shape_of_made : (s g : ℕ) (h : Shape) (u l : Vector) (r : RowVector) → 0 < s → 0 < g → shape_of s g (made_delivery s g h u l r) ≡ Some h
 shape_of_made s g h u l r hs hg = go (eq-or-lt_of_le hs)
   where
-    go : (1 ≡ s) ⊎ (1 < s) → shape_of s g (made_delivery s g h u l r) ≡ Of h
-    go (inl e) = subst (λ n. shape_of n g (made_delivery n g h u l r) ≡ Of h) e (one_state_made g h u l r hg)
+    go : (1 ≡ s) ⊎ (1 < s) → shape_of s g (made_delivery s g h u l r) ≡ Some h
+    go (inl e) = subst (λ n. shape_of n g (made_delivery n g h u l r) ≡ Some h) e (one_state_made g h u l r hg)
     go (inr more) = shape_found s g (made_delivery s g h u l r) h more hg (made_long s g h u l r)
 
 -- The file is made of bytes.
@@ -380,7 +380,7 @@ part_if true d x at n part = part refl
 part_if false d x at n part = refl
 
 -- A file with the records due is the one made of its numbers.
-pub made_of_due : (s g : ℕ) (h : Shape) (d : List ℕ) → shape_of s g d ≡ Of h → AtRecords s g h (λ i k p z q. is_due d i k p z q ≡ true) → Bytes d
+pub made_of_due : (s g : ℕ) (h : Shape) (d : List ℕ) → shape_of s g d ≡ Some h → AtRecords s g h (λ i k p z q. is_due d i k p z q ≡ true) → Bytes d
     → made_delivery s g h (uppers_of s g d) (lowers_of s g d) (means_of s g h d) ≡ d
 unfolding made_delivery uppers_of lowers_of means_of
 made_of_due s g h d of due bytes =

@@ -9,12 +9,12 @@ use Rattle.ppda.specs.Equations.{RowVector, Same, SameRows}
 use Rattle.ppda.specs.Merging.{smaller, larger}
 use Rattle.model.specs.Records.{states_of, symbols_of}
 use Rattle.delivery.specs.declared.shape.Shape.{Shape}
-use Rattle.delivery.specs.declared.shape.Shaped.TheVariants.{Of}
 use Rattle.delivery.specs.Shapes.{has_lowers, has_means, shape_of}
 use Rattle.delivery.specs.Numbers.{uppers_of, lowers_of, means_of}
 use Rattle.delivery.specs.Made.{NumbersFit}
 use Rattle.delivery.specs.Merged.{shape_with, merged_shape, merged_means, merged_of, merged}
 use Rattle.delivery.proofs.Made.{shape_of_made, uppers_of_made, lowers_of_made, means_of_made}
+use Rattle.std.specs.Prelude.{Some}
 
 -- ---- the shape
 
@@ -31,7 +31,7 @@ means_with true false = refl
 means_with true true = refl
 
 -- By which shapes the files have.
-pub merged_is : (b e d : List ℕ) {h k : Shape} → shape_of (states_of b) (symbols_of b) e ≡ Of h → shape_of (states_of b) (symbols_of b) d ≡ Of k
+pub merged_is : (b e d : List ℕ) {h k : Shape} → shape_of (states_of b) (symbols_of b) e ≡ Some h → shape_of (states_of b) (symbols_of b) d ≡ Some k
     → merged b e d ≡ merged_of (states_of b) (symbols_of b) h k e d
 unfolding merged
 merged_is b e d one other = rw (one, other)
@@ -49,7 +49,7 @@ module _ (P : ℕ → Type 0) (r t : RowVector) (p z : ℕ) where
 -- ---- the numbers
 
 module _ (s g : ℕ) (h k : Shape) (e d : List ℕ) where
-  pub merged_shape_lem : 0 < s → 0 < g → shape_of s g (merged_of s g h k e d) ≡ Of (merged_shape h k)
+  pub merged_shape_lem : 0 < s → 0 < g → shape_of s g (merged_of s g h k e d) ≡ Some (merged_shape h k)
   unfolding merged_of
   merged_shape_lem hs hg = shape_of_made s g (merged_shape h k) _ _ _ hs hg
 

@@ -1,6 +1,6 @@
 -- Two shapes are the same where their blocks are. What the shape of a file means: its length is that of the shape, a file without a shape
 -- has the length of none, and every length of a shape gives that shape. Where s is 1, UL and UR are equally long, and the kind of record V
--- tells them apart. Besides, the choice of a shape as the code makes it, and that the file holds every block of its shape.
+-- tells them apart. Besides, the file holds every block of its shape, and one as long as UL a record V.
 use Prim.Native.Nat.{ℕ, ◌+◌, ◌*◌, ◌≤◌, ◌<◌}
 use native.Mathlib.Nat.{mul-pos, mul-le-mul_left}
 use native.Mathlib.Omega.{arith}
@@ -13,8 +13,6 @@ use lib.ListN.{length}
 use borrow.Author.Tests.{eqb-true, eq-eqb, ne_eqb}
 use Rattle.delivery.specs.declared.shape.Shape.{Shape}
 use Rattle.delivery.specs.declared.shape.Shape.TheVariants.{U, UL, UR, ULR}
-use Rattle.delivery.specs.declared.shape.Shaped.{Shaped}
-use Rattle.delivery.specs.declared.shape.Shaped.TheVariants.{Of, Unknown}
 use Rattle.delivery.specs.declared.shape.Block.TheVariants.{Lowers}
 use Rattle.delivery.specs.Format.{record_bytes}
 use Rattle.delivery.specs.Records.{kind_at, kind_of}
@@ -22,6 +20,7 @@ use Rattle.delivery.specs.Clauses.{HasRecord}
 use Rattle.delivery.specs.Shapes.{has_lowers, has_means, same_shape, means_from, records_in, long_as, lowers_or_means, shape_of}
 use Rattle.walks.specs.Order.{entries_in, rows_in}
 use Rattle.walks.proofs.Exactly.{both}
+use Rattle.std.specs.Prelude.{Option, Some, None}
 
 -- ---- blocks
 
@@ -92,24 +91,24 @@ lengths_differ s g h k hs hg = go h k (mul-pos (omega arith) hg) (mul-le-mul_lef
 -- ---- the choice of a shape
 
 -- The first of the shapes that is as long as the file, k standing for UL.
-choose : Bool → Bool → Bool → Bool → Shape → Shaped
-choose a b c e k = cond a (Of U) (cond b (Of k) (cond c (Of UR) (cond e (Of ULR) Unknown)))
+choose : Bool → Bool → Bool → Bool → Shape → Option Shape
+choose a b c e k = cond a (Some U) (cond b (Some k) (cond c (Some UR) (cond e (Some ULR) None)))
 
 chosen : (P : Shape → Type 0) (a b c e : Bool) (k : Shape) → (a ≡ true → P U) → (b ≡ true → P k) → (c ≡ true → P UR) → (e ≡ true → P ULR)
-    → (h : Shape) → choose a b c e k ≡ Of h → P h
+    → (h : Shape) → choose a b c e k ≡ Some h → P h
 unfolding choose
 chosen P true b c e k f₁ f₂ f₃ f₄ h q = let r : U ≡ h = cc in subst P r (f₁ refl)
 chosen P false true c e k f₁ f₂ f₃ f₄ h q = let r : k ≡ h = cc in subst P r (f₂ refl)
 chosen P false false true e k f₁ f₂ f₃ f₄ h q = let r : UR ≡ h = cc in subst P r (f₃ refl)
 chosen P false false false true k f₁ f₂ f₃ f₄ h q = let r : ULR ≡ h = cc in subst P r (f₄ refl)
-chosen P false false false false k f₁ f₂ f₃ f₄ h q = let z : ◌≡◌ {A = ℕ} 0 1 = cc in absurd (omega arith)
+chosen P false false false false k f₁ f₂ f₃ f₄ h q = cc
 
-none_chosen : (a b c e : Bool) (k : Shape) → choose a b c e k ≡ Unknown → (a ≡ false) × (b ≡ false) × (c ≡ false) × (e ≡ false)
+none_chosen : (a b c e : Bool) (k : Shape) → choose a b c e k ≡ None → (a ≡ false) × (b ≡ false) × (c ≡ false) × (e ≡ false)
 unfolding choose
-none_chosen true b c e k q = let z : ◌≡◌ {A = ℕ} 0 1 = cc in absurd (omega arith)
-none_chosen false true c e k q = let z : ◌≡◌ {A = ℕ} 0 1 = cc in absurd (omega arith)
-none_chosen false false true e k q = let z : ◌≡◌ {A = ℕ} 0 1 = cc in absurd (omega arith)
-none_chosen false false false true k q = let z : ◌≡◌ {A = ℕ} 0 1 = cc in absurd (omega arith)
+none_chosen true b c e k q = cc
+none_chosen false true c e k q = cc
+none_chosen false false true e k q = cc
+none_chosen false false false true k q = cc
 none_chosen false false false false k q = (refl, refl, refl, refl)
 
 -- The file is as long as UL, and so it is as long as the shape that stands for UL.
@@ -121,7 +120,7 @@ long_as_either s g n t e = go (eqb s 1) refl t
     go true q false = e
     go false q t = e
 
-pub shape_long : (s g : ℕ) (d : List ℕ) (h : Shape) → shape_of s g d ≡ Of h → length d ≡ record_bytes * records_in s g h
+pub shape_long : (s g : ℕ) (d : List ℕ) (h : Shape) → shape_of s g d ≡ Some h → length d ≡ record_bytes * records_in s g h
 unfolding shape_of lowers_or_means choose
 shape_long s g d =
     chosen (λ h. length d ≡ record_bytes * records_in s g h)
@@ -131,7 +130,7 @@ shape_long s g d =
     (long_exactly s g UR d).0
     (long_exactly s g ULR d).0
 
-none_long : (s g : ℕ) (d : List ℕ) → shape_of s g d ≡ Unknown → (h : Shape) → long_as s g h d ≡ false
+none_long : (s g : ℕ) (d : List ℕ) → shape_of s g d ≡ None → (h : Shape) → long_as s g h d ≡ false
 unfolding shape_of lowers_or_means choose
 none_long s g d e = go (none_chosen (long_as s g U d) (long_as s g UL d) (long_as s g UR d) (long_as s g ULR d) _ e)
   where
@@ -142,21 +141,21 @@ none_long s g d e = go (none_chosen (long_as s g U d) (long_as s g UL d) (long_a
     go n UR = n.2
     go n ULR = n.3
 
-pub shape_unknown : (s g : ℕ) (d : List ℕ) → (shape_of s g d ≡ Unknown) ↔ ((h : Shape) → length d ≡ record_bytes * records_in s g h → ⊥)
+pub shape_unknown : (s g : ℕ) (d : List ℕ) → (shape_of s g d ≡ None) ↔ ((h : Shape) → length d ≡ record_bytes * records_in s g h → ⊥)
 unfolding shape_of lowers_or_means
 shape_unknown s g d = (
   λ e h l. true≢false (sym ((long_exactly s g h d).1 l) ∙ none_long s g d e h),
   λ n. rw (not_long s g U d (n U), not_long s g UL d (n UL), not_long s g UR d (n UR), not_long s g ULR d (n ULR)),
 )
 
-pub shape_found : (s g : ℕ) (d : List ℕ) (h : Shape) → 1 < s → 0 < g → length d ≡ record_bytes * records_in s g h → shape_of s g d ≡ Of h
+pub shape_found : (s g : ℕ) (d : List ℕ) (h : Shape) → 1 < s → 0 < g → length d ≡ record_bytes * records_in s g h → shape_of s g d ≡ Some h
 shape_found s g d h hs hg l = go (shape_of s g d) refl
   where
-    go : (t : Shaped) → shape_of s g d ≡ t → shape_of s g d ≡ Of h
-    go (Of k) e =
+    go : (t : Option Shape) → shape_of s g d ≡ t → shape_of s g d ≡ Some h
+    go (Some k) e =
         let same : records_in s g k ≡ records_in s g h = omega (arith, shape_long s g d k e) in
-        e ∙ ap Of (lengths_differ s g k h hs hg same)
-    go Unknown e = absurd ((shape_unknown s g d).0 e h l)
+        e ∙ ap Some (lengths_differ s g k h hs hg same)
+    go None e = absurd ((shape_unknown s g d).0 e h l)
 
 -- ---- one state
 
@@ -164,29 +163,29 @@ uppers_shorter : (g : ℕ) → 0 < g → records_in 1 g U < records_in 1 g UL
 unfolding records_in means_from
 uppers_shorter g h = omega arith
 
-UL_not_UR : Of UL ≡ Of UR → ⊥
-UL_not_UR e = let z : ◌≡◌ {A = ℕ} 0 1 = cc in omega arith
+UL_not_UR : Some UL ≡ Some UR → ⊥
+UL_not_UR e = cc
 
 module _ (g : ℕ) (d : List ℕ) (some : 0 < g) (long : length d ≡ record_bytes * records_in 1 g UL) where
   -- The kind of record V decides.
-  by_kind : (t : Bool) → eqb (kind_at d (entries_in 1 g)) (kind_of Lowers) ≡ t → shape_of 1 g d ≡ Of (cond t UL UR)
+  by_kind : (t : Bool) → eqb (kind_at d (entries_in 1 g)) (kind_of Lowers) ≡ t → shape_of 1 g d ≡ Some (cond t UL UR)
   unfolding shape_of lowers_or_means
   by_kind true e = rw (not_long 1 g U d (λ q. omega (arith, uppers_shorter g some)), (long_exactly 1 g UL d).1 long, e)
   by_kind false e = rw (not_long 1 g U d (λ q. omega (arith, uppers_shorter g some)), (long_exactly 1 g UL d).1 long, e)
 
-  pub one_state_lowers : (shape_of 1 g d ≡ Of UL) ↔ (kind_at d (entries_in 1 g) ≡ kind_of Lowers)
+  pub one_state_lowers : (shape_of 1 g d ≡ Some UL) ↔ (kind_at d (entries_in 1 g) ≡ kind_of Lowers)
   one_state_lowers = (go (eqb (kind_at d (entries_in 1 g)) (kind_of Lowers)) refl, λ e. by_kind true (eq-eqb _ _ e))
     where
-      go : (t : Bool) → eqb (kind_at d (entries_in 1 g)) (kind_of Lowers) ≡ t → shape_of 1 g d ≡ Of UL
+      go : (t : Bool) → eqb (kind_at d (entries_in 1 g)) (kind_of Lowers) ≡ t → shape_of 1 g d ≡ Some UL
           → kind_at d (entries_in 1 g) ≡ kind_of Lowers
       go true e q = eqb-true _ _ e
       go false e q = absurd (UL_not_UR (sym q ∙ by_kind false e))
 
-  pub one_state_means : (shape_of 1 g d ≡ Of UR) ↔ (kind_at d (entries_in 1 g) ≡ kind_of Lowers → ⊥)
+  pub one_state_means : (shape_of 1 g d ≡ Some UR) ↔ (kind_at d (entries_in 1 g) ≡ kind_of Lowers → ⊥)
   one_state_means = (λ e q. UL_not_UR (sym (by_kind true (eq-eqb _ _ q)) ∙ e), λ n. by_kind false (ne_eqb _ _ n))
 
 -- The other two lengths give their shape.
-pub one_state_alone : (g : ℕ) (d : List ℕ) → 0 < g → length d ≡ record_bytes * records_in 1 g U → shape_of 1 g d ≡ Of U
+pub one_state_alone : (g : ℕ) (d : List ℕ) → 0 < g → length d ≡ record_bytes * records_in 1 g U → shape_of 1 g d ≡ Some U
 unfolding shape_of
 one_state_alone g d some long = rw ((long_exactly 1 g U d).1 long)
 
@@ -194,7 +193,7 @@ both_longer : (g : ℕ) → 0 < g → records_in 1 g UL < records_in 1 g ULR
 unfolding records_in means_from
 both_longer g h = omega arith
 
-pub one_state_both : (g : ℕ) (d : List ℕ) → 0 < g → length d ≡ record_bytes * records_in 1 g ULR → shape_of 1 g d ≡ Of ULR
+pub one_state_both : (g : ℕ) (d : List ℕ) → 0 < g → length d ≡ record_bytes * records_in 1 g ULR → shape_of 1 g d ≡ Some ULR
 unfolding shape_of
 one_state_both g d some long =
     rw (
@@ -204,35 +203,11 @@ one_state_both g d some long =
       (long_exactly 1 g ULR d).1 long,
     )
 
--- ---- the choice step by step, as the code finds it
+-- ---- a file as long as UL has a record V
 
-module _ (s g : ℕ) (d : List ℕ) where
-  pub is_U : long_as s g U d ≡ true → shape_of s g d ≡ Of U
-  unfolding shape_of
-  is_U a = rw a
-
-  pub is_UL_or_UR : long_as s g U d ≡ false → long_as s g UL d ≡ true → shape_of s g d ≡ Of (lowers_or_means s g d)
-  unfolding shape_of
-  is_UL_or_UR a b = rw (a, b)
-
-  pub is_UR : long_as s g U d ≡ false → long_as s g UL d ≡ false → long_as s g UR d ≡ true → shape_of s g d ≡ Of UR
-  unfolding shape_of
-  is_UR a b c = rw (a, b, c)
-
-  pub is_ULR : long_as s g U d ≡ false → long_as s g UL d ≡ false → long_as s g UR d ≡ false → long_as s g ULR d ≡ true
-      → shape_of s g d ≡ Of ULR
-  unfolding shape_of
-  is_ULR a b c e = rw (a, b, c, e)
-
-  pub is_unknown : long_as s g U d ≡ false → long_as s g UL d ≡ false → long_as s g UR d ≡ false → long_as s g ULR d ≡ false
-      → shape_of s g d ≡ Unknown
-  unfolding shape_of
-  is_unknown a b c e = rw (a, b, c, e)
-
-  -- A file as long as UL has a record V.
-  pub UL_has_more : 0 < s → 0 < g → long_as s g UL d ≡ true → HasRecord d (entries_in s g)
-  unfolding records_in means_from
-  UL_has_more hs hg e = omega (arith, (long_exactly s g UL d).0 e, mul-pos (mul-pos hs hg) hs)
+pub UL_has_more : (s g : ℕ) (d : List ℕ) → 0 < s → 0 < g → long_as s g UL d ≡ true → HasRecord d (entries_in s g)
+unfolding records_in means_from
+UL_has_more s g d hs hg e = omega (arith, (long_exactly s g UL d).0 e, mul-pos (mul-pos hs hg) hs)
 
 -- ---- the file holds every block of its shape
 
@@ -254,7 +229,7 @@ means_within : (s g : ℕ) (h : Shape) → has_means h ≡ true → records_in s
 unfolding records_in
 means_within s g h e = rw e
 
-module _ (s g : ℕ) (d : List ℕ) (h : Shape) (of : shape_of s g d ≡ Of h) where
+module _ (s g : ℕ) (d : List ℕ) (h : Shape) (of : shape_of s g d ≡ Some h) where
   pub uppers_fit : record_bytes * entries_in s g ≤ length d
   uppers_fit = omega (arith, shape_long s g d h of, uppers_within s g h)
 

@@ -1,11 +1,10 @@
 -- Parts of a delivery, and blocks in range: what functions ask of the bytes that they are given.
-use Rattle.std.specs.Prelude.{ℕ, ◌+◌, ◌*◌, ◌≤◌, List, ◌≡◌, length}
+use Rattle.std.specs.Prelude.{ℕ, ◌+◌, ◌*◌, ◌≤◌, List, ◌≡◌, length, Some}
 use Rattle.walks.specs.Order.{rows_in, entries_in, row_at}
 use Rattle.ppda.specs.Units.{most_chance, most_mean}
 use Rattle.model.specs.declared.sizes.Sizes.{Sizes}
 use Rattle.model.specs.Clauses.{Fits}
 use Rattle.delivery.specs.declared.shape.Shape.{Shape}
-use Rattle.delivery.specs.declared.shape.Shaped.TheVariants.{Of}
 use Rattle.delivery.specs.Format.{record_bytes}
 use Rattle.delivery.specs.Records.{value_at}
 use Rattle.delivery.specs.Shapes.{shape_of}
@@ -33,7 +32,7 @@ MeanSteps n d = Within d (rows_in n.states n.symbols) most_mean
 -- The file's shape for a model of these sizes is h, and the sizes fit.
 pub record ShapedFile (n : Sizes) (h : Shape) (d : List ℕ) : Type 0 where
   pub fits : Fits n.states n.symbols
-  pub of : shape_of n.states n.symbols d ≡ Of h
+  pub of : shape_of n.states n.symbols d ≡ Some h
 
 -- The numbers of a block by itself: `uppers_of` reads the first V values of any bytes, so of the part from record V on it reads the lowers. Mean
 -- steps are the values by rows.

@@ -1,12 +1,10 @@
 -- The delivery merged of two for one model (request A.5): the smaller upper, the larger lower and the smaller mean of each pair, by the encoders of `Made`.
-use Rattle.std.specs.Prelude.{ℕ, Bool, true, false, ◌&&◌, ◌||◌, List, []}
+use Rattle.std.specs.Prelude.{ℕ, Bool, true, false, ◌&&◌, ◌||◌, List, [], Option, Some, None}
 use Rattle.ppda.specs.Equations.{RowVector}
 use Rattle.ppda.specs.Merging.{smaller, larger, smaller_rows}
 use Rattle.model.specs.Records.{states_of, symbols_of}
 use Rattle.delivery.specs.declared.shape.Shape.{Shape}
 use Rattle.delivery.specs.declared.shape.Shape.TheVariants.{U, UL, UR, ULR}
-use Rattle.delivery.specs.declared.shape.Shaped.{Shaped}
-use Rattle.delivery.specs.declared.shape.Shaped.TheVariants.{Of, Unknown}
 use Rattle.delivery.specs.Shapes.{has_lowers, has_means, shape_of}
 use Rattle.delivery.specs.Numbers.{uppers_of, lowers_of, means_of}
 use Rattle.delivery.specs.Made.{made_delivery}
@@ -37,10 +35,10 @@ merged_of s g h k e d =
     (merged_means (has_means h) (has_means k) (means_of s g h e) (means_of s g k d))
 
 -- By the shapes that the files have. (One without a shape is no delivery, and makes nothing.)
-abbrev pub merged_by : ℕ → ℕ → Shaped → Shaped → List ℕ → List ℕ → List ℕ
-merged_by s g (Of h) (Of k) e d = merged_of s g h k e d
-merged_by s g (Of h) Unknown e d = []
-merged_by s g Unknown k e d = []
+abbrev pub merged_by : ℕ → ℕ → Option Shape → Option Shape → List ℕ → List ℕ → List ℕ
+merged_by s g (Some h) (Some k) e d = merged_of s g h k e d
+merged_by s g (Some h) None e d = []
+merged_by s g None k e d = []
 
 -- The merged file of two deliveries e and d for the model b.
 unfoldable pub merged : List ℕ → List ℕ → List ℕ → List ℕ

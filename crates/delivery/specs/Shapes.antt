@@ -1,10 +1,8 @@
 -- The four shapes of a delivery. "Shape" is document 01's term.
-use Rattle.std.specs.Prelude.{ℕ, ◌+◌, ◌*◌, Bool, true, false, not, cond, ◌&&◌, List, eqb, length}
+use Rattle.std.specs.Prelude.{ℕ, ◌+◌, ◌*◌, Bool, true, false, not, cond, ◌&&◌, List, eqb, length, Option, Some, None}
 use Rattle.std.specs.Bool.{beq}
 use Rattle.delivery.specs.declared.shape.Shape.{Shape}
 use Rattle.delivery.specs.declared.shape.Shape.TheVariants.{U, UL, UR, ULR}
-use Rattle.delivery.specs.declared.shape.Shaped.{Shaped}
-use Rattle.delivery.specs.declared.shape.Shaped.TheVariants.{Of, Unknown}
 use Rattle.delivery.specs.declared.shape.Block.TheVariants.{Lowers}
 use Rattle.delivery.specs.Format.{record_bytes}
 use Rattle.delivery.specs.Records.{kind_at, kind_of}
@@ -45,9 +43,9 @@ unfoldable pub lowers_or_means : ℕ → ℕ → List ℕ → Shape
 lowers_or_means s g d = cond (eqb s 1 && not (eqb (kind_at d (entries_in s g)) (kind_of Lowers))) UR UL
 
 -- The shape of a file for a model with s states and g symbols.
-unfoldable pub shape_of : ℕ → ℕ → List ℕ → Shaped
+unfoldable pub shape_of : ℕ → ℕ → List ℕ → Option Shape
 shape_of s g d =
-    cond (long_as s g U d) (Of U)
-    (cond (long_as s g UL d) (Of (lowers_or_means s g d))
-    (cond (long_as s g UR d) (Of UR)
-    (cond (long_as s g ULR d) (Of ULR) Unknown)))
+    cond (long_as s g U d) (Some U)
+    (cond (long_as s g UL d) (Some (lowers_or_means s g d))
+    (cond (long_as s g UR d) (Some UR)
+    (cond (long_as s g ULR d) (Some ULR) None)))

@@ -12,6 +12,7 @@ use super::format::{
 use super::shape::Block;
 
 // Byte k of record i.
+#[tactic(auto, unfolding(crate::specs::Records::byte_of))]
 fn byte_of(delivery: &[u8], i: usize, k: usize) -> usize
     requires { HasRecord delivery.now i × (k < record_bytes) }
     ensures { (result ≡ byte_of delivery.now i k) × (result < 65536) }
@@ -19,7 +20,7 @@ fn byte_of(delivery: &[u8], i: usize, k: usize) -> usize
     words::byte(delivery, RECORD_BYTES * i + k)
 }
 
-// The kind of record i.
+// The kind of record i. Each number has a function of its own, as each has its definition; what they share is `byte_of`.
 pub(crate) fn kind_at(delivery: &[u8], i: usize) -> usize
     requires { HasRecord delivery.now i }
     ensures { (result ≡ kind_at delivery.now i) × (result < 65536) }
@@ -52,6 +53,7 @@ fn exit_at(delivery: &[u8], i: usize) -> usize
 }
 
 // Its value.
+#[tactic(auto, unfolding(crate::specs::Records::value_at))]
 pub fn value_at(delivery: &[u8], i: usize) -> u64
     requires { HasRecord delivery.now i }
     ensures { (result ≡ value_at delivery.now i) × (result < 2 ^ 32) }
@@ -75,8 +77,7 @@ fn least(block: Block) -> u64
     ensures { result ≡ least_of block }
 {
     match block {
-        Block::Uppers => 0,
-        Block::Lowers => 0,
+        Block::Uppers | Block::Lowers => 0,
         Block::Means => LEAST_MEAN,
     }
 }
@@ -86,29 +87,28 @@ fn most(block: Block) -> u64
     ensures { result ≡ most_of block }
 {
     match block {
-        Block::Uppers => MOST_CHANCE,
-        Block::Lowers => MOST_CHANCE,
+        Block::Uppers | Block::Lowers => MOST_CHANCE,
         Block::Means => MOST_MEAN,
     }
 }
 
 // Whether record i has the kind, p, Z and q due there.
+#[tactic(auto, unfolding(crate::specs::Records::is_due))]
 pub fn is_due(delivery: &[u8], i: usize, block: Block, p: usize, z: usize, q: usize) -> bool
     requires { HasRecord delivery.now i }
     ensures { result ≡ is_due delivery.now i block p z q }
 {
-    let k = kind_at(delivery, i) == kind(block);
-    let a = state_at(delivery, i) == p;
-    let b = symbol_at(delivery, i) == z;
-    let c = exit_at(delivery, i) == q;
-    k & (a & (b & c))
+    kind_at(delivery, i) == kind(block)
+        && state_at(delivery, i) == p
+        && symbol_at(delivery, i) == z
+        && exit_at(delivery, i) == q
 }
 
 // Whether the value of record i is in the block's range.
+#[tactic(auto, unfolding(crate::specs::Records::in_range))]
 pub fn in_range(delivery: &[u8], i: usize, block: Block) -> bool
     requires { HasRecord delivery.now i }
     ensures { result ≡ in_range delivery.now i block }
 {
-    let v = value_at(delivery, i);
-    (least(block) <= v) & (v <= most(block))
+    (least(block)..=most(block)).contains(&value_at(delivery, i))
 }

@@ -13,19 +13,12 @@ use super::record::{kind, kind_at};
 use model::sizes::Sizes;
 
 // The four shapes: uppers; with lowers; with mean steps; with both.
-#[derive(Clone, Copy)]
+#[derive(Clone, Copy, PartialEq, Eq)]
 pub enum Shape {
     U,
     UL,
     UR,
     ULR,
-}
-
-// The shape of a file, if its length is that of any.
-#[derive(Clone, Copy)]
-pub enum Shaped {
-    Of(Shape),
-    Unknown,
 }
 
 // The kinds of blocks.
@@ -40,34 +33,25 @@ pub enum Block {
 pub fn has_lowers(shape: Shape) -> bool
     ensures { result ≡ has_lowers shape }
 {
-    match shape {
-        Shape::U => false,
-        Shape::UL => true,
-        Shape::UR => false,
-        Shape::ULR => true,
-    }
+    matches!(shape, Shape::UL | Shape::ULR)
 }
 
 // Whether a shape has mean steps.
 pub fn has_means(shape: Shape) -> bool
     ensures { result ≡ has_means shape }
 {
-    match shape {
-        Shape::U => false,
-        Shape::UL => false,
-        Shape::UR => true,
-        Shape::ULR => true,
-    }
+    matches!(shape, Shape::UR | Shape::ULR)
 }
 
 // Whether two shapes are the same.
 pub fn same_shape(a: Shape, b: Shape) -> bool
     ensures { result ≡ same_shape a b }
 {
-    (has_lowers(a) == has_lowers(b)) & (has_means(a) == has_means(b))
+    a == b
 }
 
 // The record at which a shape's mean steps start.
+#[tactic(auto, unfolding(crate::specs::Shapes::means_from))]
 pub fn means_from(n: Sizes, shape: Shape) -> usize
     requires { Fits n.states n.symbols }
     ensures { (result ≡ means_from n.states n.symbols shape) × (result ≤ most_records) }
@@ -77,6 +61,7 @@ pub fn means_from(n: Sizes, shape: Shape) -> usize
 }
 
 // How many records a shape has.
+#[tactic(auto, unfolding(crate::specs::Shapes::records_in))]
 fn records_in(n: Sizes, shape: Shape) -> usize
     requires { Fits n.states n.symbols }
     ensures { (result ≡ records_in n.states n.symbols shape) × (result ≤ most_records + most_rows) }
@@ -90,6 +75,7 @@ fn records_in(n: Sizes, shape: Shape) -> usize
 }
 
 // Whether the file has as many bytes as the shape's records.
+#[tactic(auto, unfolding(crate::specs::Shapes::long_as))]
 fn long_as(delivery: &[u8], n: Sizes, shape: Shape) -> bool
     requires { Fits n.states n.symbols }
     ensures { result ≡ long_as n.states n.symbols shape delivery.now }
@@ -98,35 +84,35 @@ fn long_as(delivery: &[u8], n: Sizes, shape: Shape) -> bool
 }
 
 // Which of the two shapes a file as long as UL has: UR where s is 1 and the kind of record V is not that of lowers.
+#[tactic(auto, unfolding(crate::specs::Shapes::lowers_or_means))]
 fn lowers_or_means(delivery: &[u8], n: Sizes) -> Shape
     requires { Fits n.states n.symbols × HasRecord delivery.now (entries_in n.states n.symbols) }
     ensures { result ≡ lowers_or_means n.states n.symbols delivery.now }
 {
-    let v = n.entries();
-    let s = n.states;
-    if (s == 1) & (kind_at(delivery, v) != kind(Block::Lowers)) {
+    if n.states == 1 && kind_at(delivery, n.entries()) != kind(Block::Lowers) {
         Shape::UR
     } else {
         Shape::UL
     }
 }
 
-// The shape of a file for a model of these sizes.
-pub fn shape_of(delivery: &[u8], n: Sizes) -> Shaped
+// The shape of a file for a model of these sizes, if its length is that of any.
+#[tactic(auto, using(crate::proofs::Shapes::UL_has_more), unfolding(crate::specs::Shapes::shape_of))]
+pub fn shape_of(delivery: &[u8], n: Sizes) -> Option<Shape>
     requires { Fits n.states n.symbols }
     ensures { result ≡ shape_of n.states n.symbols delivery.now }
 {
     if long_as(delivery, n, Shape::U) {
-        return Shaped::Of(Shape::U);
+        return Some(Shape::U);
     }
     if long_as(delivery, n, Shape::UL) {
-        return Shaped::Of(lowers_or_means(delivery, n));
+        return Some(lowers_or_means(delivery, n));
     }
     if long_as(delivery, n, Shape::UR) {
-        return Shaped::Of(Shape::UR);
+        return Some(Shape::UR);
     }
     if long_as(delivery, n, Shape::ULR) {
-        return Shaped::Of(Shape::ULR);
+        return Some(Shape::ULR);
     }
-    Shaped::Unknown
+    None
 }

@@ -15,12 +15,19 @@ const PIECE: usize = 16_384;
 
 const ROOM: usize = PIECE * replies::REPLY_ROOM;
 
-// What a turn leaves: the desk, whether there may be more to read, and whether the input has ended.
+// What follows a turn: another one, the end of the input, or nothing, since reading or writing failed.
+#[derive(Clone, Copy)]
+enum Next {
+    Turn,
+    End,
+    Stop,
+}
+
+// What a turn leaves.
 #[derive(Clone, Copy)]
 struct Turn {
     desk: Desk,
-    goes_on: bool,
-    has_ended: bool,
+    next: Next,
 }
 
 // An empty buffer for replies.
@@ -58,13 +65,10 @@ fn reply_to(rt: &(impl Files + Print + Eprint), desk: Desk, piece: &[u8], out: &
     ensures { Replied desk piece.now result }
 {
     let served = serve_all(rt, desk, piece, out);
-    let printed = served.printed;
-    let after = served.desk;
-    let is_written = write_replies(rt, &out[..printed]);
+    let is_written = write_replies(rt, &out[..served.printed]);
     Turn {
-        desk: after,
-        goes_on: is_written,
-        has_ended: false,
+        desk: served.desk,
+        next: if is_written { Next::Turn } else { Next::Stop },
     }
 }
 
@@ -82,40 +86,36 @@ fn take_turn(
     match input.read(&mut piece) {
         Ok(0) => Turn {
             desk,
-            goes_on: false,
-            has_ended: true,
+            next: Next::End,
         },
         Ok(n) => reply_to(rt, desk, &piece[..n], out),
         Err(_) => {
             complain(rt, "desk: input not read");
             Turn {
                 desk,
-                goes_on: false,
-                has_ended: false,
+                next: Next::Stop,
             }
         }
     }
 }
 
-// Takes turns to the end of the input, where the last line may lack its end. A proved loop has to end, so it counts its turns down, from a number
-// that no input uses up.
+// Takes turns to the end of the input, where the last line may lack its end. A proved loop has to end, so there are as many turns
+// as no input uses up.
 fn attend(rt: &(impl Files + Print + Eprint), input: &mut impl Read, out: &mut [u8])
     requires { room_bytes ≤ length out.old }
 {
     let mut desk = opened();
-    let mut goes_on = true;
-    let mut has_ended = false;
-    let mut turns = u64::MAX;
-    while 0 < turns && goes_on {
+    for _ in 0..u64::MAX {
         let turn = take_turn(rt, input, desk, out);
-        let after = turn.desk;
-        desk = after;
-        goes_on = turn.goes_on;
-        has_ended = turn.has_ended;
-        turns -= 1;
-    }
-    if has_ended {
-        reply_to(rt, desk, b"\n", out);
+        desk = turn.desk;
+        match turn.next {
+            Next::Turn => {}
+            Next::End => {
+                reply_to(rt, desk, b"\n", out);
+                return;
+            }
+            Next::Stop => return,
+        }
     }
 }
 

@@ -1,10 +1,11 @@
 -- Names for what the functions work out from the bytes of a model and of blocks of a delivery.
-use Rattle.std.specs.Prelude.{ℕ, ◌*◌, List}
+use Rattle.std.specs.Prelude.{ℕ, ◌*◌, ◌≤◌, ◌<◌, ◌≡◌, List}
 use Rattle.walks.specs.Order.{by_row}
 use Rattle.ppda.specs.Units.{chance_unit, step_unit}
+use Rattle.ppda.specs.Rules.{Push, over_row}
 use Rattle.ppda.specs.Equations.{through, f, steps_through, mean_side}
 use Rattle.model.specs.declared.sizes.Sizes.{Sizes}
-use Rattle.model.specs.Records.{target}
+use Rattle.model.specs.Records.{records_of, target}
 use Rattle.model.specs.Rules.{push_at, rules_of}
 use Rattle.delivery.specs.Numbers.{uppers_of}
 use Rattle.delivery.specs.Clauses.{rows_of_block}
@@ -35,3 +36,12 @@ abbrev pub mean_side_of : List ℕ → Sizes → List ℕ → List ℕ → ℕ �
 mean_side_of b n u e k =
     by_row n.symbols
     (mean_side (rules_of b) n.states chance_unit step_unit (uppers_of n.states n.symbols u) (rows_of_block n.symbols e)) k
+
+-- What calls on the records give, by a record's target and what it pushes, and that it is at most `most`.
+pub record Gives (post : ℕ → ℕ → Type 0) (b : List ℕ) (value : ℕ → Push → ℕ) (most : ℕ) : Type 0 where
+  pub given : (i : ℕ) (r : ℕ) → i < records_of b → post i r → r ≡ value (target b i) (push_at b i)
+  pub small : (q : ℕ) (x : Push) → value q x ≤ most
+
+-- The sum over row number k of the weight times a value.
+abbrev pub row_sum : List ℕ → Sizes → (ℕ → Push → ℕ) → ℕ → ℕ
+row_sum b n value k = by_row n.symbols (λ p z. over_row (rules_of b) p z (λ r. value r.target r.push)) k

@@ -10,9 +10,10 @@ ghost use Rattle.delivery.specs.Clauses.{HasRecords, Chances};
 ghost use Rattle.rows.specs.Clauses.{Indexed};
 ghost use Rattle.equations.specs.Clauses.{product, through_of, f_of};
 
+use super::sums::{sum_over_row, sum_over_states};
 use delivery::format::CHANCE_UNIT;
 use delivery::record::value_at;
-use model::record::{pushes, target, top, under, weight};
+use model::record::{pushes, target, top, under};
 use model::sizes::Sizes;
 use rows::STARTS;
 
@@ -31,40 +32,26 @@ fn through_two(block: &[u8], n: Sizes, r: usize, y: usize, x: usize, q: usize) -
     requires inside { (r < n.states) × (y < n.symbols) × (x < n.symbols) × (q < n.states) }
     ensures { (result ≡ sum_to (product n.states n.symbols block.now r y x q) n.states) × (result ≤ 2 ^ 45) }
 {
-    let s = n.states;
-    let mut sum = 0;
-    let mut t = 0;
-    while t < s {
-        sum += value(block, n, r, y, t) * value(block, n, t, x, q);
-        t += 1;
-    }
-    sum
+    sum_over_states(
+        n.states,
+        |t| value(block, n, r, y, t) * value(block, n, t, x, q),
+    )
 }
 
 // What record i contributes to f at an entry with exit q, before its weight.
+#[tactic(auto, using(model::proofs::Accepted::sized_fits))]
 fn through(model: &[u8], i: usize, block: &[u8], n: Sizes, q: usize) -> u64
     requires sizes { Sized model.now n.states n.symbols × Chances n block.now }
     requires inside { (i < records_of model.now) × (q < n.states) }
     ensures { (result ≡ through_of model.now i n block.now q) × (result ≤ 2 ^ 45) }
 {
     let r = target(model, i);
-    let l = pushes(model, i);
-    if l == 0 {
-        return if r == q { CHANCE_UNIT * CHANCE_UNIT } else { 0 };
+    match pushes(model, i) {
+        0 if r == q => CHANCE_UNIT * CHANCE_UNIT,
+        0 => 0,
+        1 => CHANCE_UNIT * value(block, n, r, top(model, i), q),
+        _ => through_two(block, n, r, top(model, i), under(model, i), q),
     }
-    let y = top(model, i);
-    if l == 1 {
-        return CHANCE_UNIT * value(block, n, r, y, q);
-    }
-    through_two(block, n, r, y, under(model, i), q)
-}
-
-// What a rule adds to a sum over its row's rules: its weight times what it leads to, with no rounding.
-pub(crate) fn weighed(weight: u64, through: u64) -> u64
-    requires { weight * through < 2 ^ 63 }
-    ensures { result ≡ weight * through }
-{
-    weight * through
 }
 
 // f at the entry of a row, by its number, with exit q.
@@ -73,12 +60,5 @@ pub fn f(model: &[u8], starts: &[u16; STARTS], block: &[u8], n: Sizes, row: usiz
     requires inside { (row < rows_in n.states n.symbols) × (q < n.states) }
     ensures { (result ≡ f_of model.now n block.now row q) × (result ≤ 2 ^ 61) }
 {
-    let end = starts[row + 1] as usize;
-    let mut i = starts[row] as usize;
-    let mut sum = 0;
-    while i < end {
-        sum += weighed(weight(model, i), through(model, i, block, n, q));
-        i += 1;
-    }
-    sum
+    sum_over_row(model, starts, n, row, |i| through(model, i, block, n, q))
 }

@@ -3,4 +3,5 @@
 #![tactic(auto)]
 
 pub mod chances; // chances.rt: f at one entry
+mod sums; // sums.rt: the sums over the states and over a row
 pub mod steps; // steps.rt: the right side of the mean steps' inequality

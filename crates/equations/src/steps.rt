@@ -9,11 +9,12 @@ ghost use Rattle.delivery.specs.Clauses.{rows_of_block, HasRecords, Chances, Mea
 ghost use Rattle.rows.specs.Clauses.{Indexed};
 ghost use Rattle.equations.specs.Clauses.{steps_product, steps_added, mean_side_of};
 
-use super::chances::{value, weighed};
+use super::chances::value;
+use super::sums::{sum_over_row, sum_over_states};
 use delivery::format::{CHANCE_UNIT, STEP_UNIT};
 use delivery::record::value_at;
 use model::format::WEIGHT_UNIT;
-use model::record::{pushes, target, top, under, weight};
+use model::record::{pushes, target, top, under};
 use model::sizes::Sizes;
 use rows::STARTS;
 
@@ -35,33 +36,27 @@ fn steps_two(uppers: &[u8], means: &[u8], n: Sizes, r: usize, y: usize, x: usize
     requires inside { (r < n.states) × (y < n.symbols) × (x < n.symbols) }
     ensures { (result ≡ sum_to (steps_product n.states n.symbols uppers.now means.now r y x) n.states) × (result ≤ 2 ^ 46) }
 {
-    let s = n.states;
-    let mut sum = 0;
-    let mut t = 0;
-    while t < s {
-        sum += value(uppers, n, r, y, t) * mean(means, n, t, x);
-        t += 1;
-    }
-    sum
+    sum_over_states(
+        n.states,
+        |t| value(uppers, n, r, y, t) * mean(means, n, t, x),
+    )
 }
 
 // What record i contributes to its row's right side, before its weight.
+#[tactic(auto, using(model::proofs::Accepted::sized_fits))]
 fn steps_through(model: &[u8], i: usize, uppers: &[u8], means: &[u8], n: Sizes) -> u64
     requires files { Sized model.now n.states n.symbols × Chances n uppers.now × MeanSteps n means.now }
     requires inside { i < records_of model.now }
     ensures { (result ≡ steps_added model.now i n uppers.now means.now) × (result ≤ 2 ^ 46 + 2 ^ 42) }
 {
-    let l = pushes(model, i);
-    if l == 0 {
-        return 0;
-    }
     let r = target(model, i);
     let y = top(model, i);
-    let first = CHANCE_UNIT * mean(means, n, r, y);
-    if l == 1 {
-        return first;
+    match pushes(model, i) {
+        0 => 0,
+        1 => CHANCE_UNIT * mean(means, n, r, y),
+        _ => CHANCE_UNIT * mean(means, n, r, y)
+            + steps_two(uppers, means, n, r, y, under(model, i)),
     }
-    first + steps_two(uppers, means, n, r, y, under(model, i))
 }
 
 // The right side for a row, by its number, in 1/2^44 of a step.
@@ -77,12 +72,11 @@ pub fn mean_side(
     requires inside { row < rows_in n.states n.symbols }
     ensures { (result ≡ mean_side_of model.now n uppers.now means.now row) × (result < 2 ^ 63) }
 {
-    let end = starts[row + 1] as usize;
-    let mut i = starts[row] as usize;
-    let mut sum = STEP;
-    while i < end {
-        sum += weighed(weight(model, i), steps_through(model, i, uppers, means, n));
-        i += 1;
-    }
-    sum
+    STEP + sum_over_row(
+        model,
+        starts,
+        n,
+        row,
+        |i| steps_through(model, i, uppers, means, n),
+    )
 }

@@ -28,8 +28,8 @@ fn tell(rt: &impl Eprint, path: &str, why: impl Display + Drop) {
     let _ = eprintln!(rt; "{path}: {why}");
 }
 
-// Reads on until `out` is full or the file ends, and answers how many bytes. Where a read fails, standard error says why, and nothing counts that
-// was read before.
+// Reads on until `out` is full or the file ends, by as many bytes as each read brings, and answers how many. Where a
+// read fails, standard error says why, and nothing counts that was read before.
 fn fill(rt: &impl Eprint, path: &str, file: &mut impl Read, out: &mut [u8]) -> usize
     ensures { IsPrefixLen result out.new }
 {

@@ -1,9 +1,8 @@
 -- The mark of an accepted delivery ("known" and "new" are document 01's terms, "Filing and questions"; what is known is request A.3's), by what is held.
-use Rattle.std.specs.Prelude.{ℕ, Bool, cond, ◌&&◌, List, eqb, get_or}
+use Rattle.std.specs.Prelude.{ℕ, Bool, cond, ◌&&◌, List, eqb, get_or, Option}
 use Rattle.walks.specs.Sums.{all_to}
 use Rattle.walks.specs.Order.{entries_in, rows_in}
 use Rattle.delivery.specs.declared.shape.Shape.{Shape}
-use Rattle.held.specs.declared.HeldDelivery.{HeldDelivery}
 use Rattle.held.specs.declared.Numbers.{Numbers}
 use Rattle.held.specs.Held.{is_held_as}
 use Rattle.calls.specs.declared.Mark.{Mark}
@@ -22,5 +21,5 @@ same_numbers s g former numbers =
     && same_to (rows_in s g) former.means numbers.means
 
 -- The mark of a delivery of shape h with these numbers: known where one of the same shape was held, with the same numbers, else new (request A.3).
-unfoldable pub mark_by : ℕ → ℕ → HeldDelivery → Numbers → Shape → Numbers → Mark
+unfoldable pub mark_by : ℕ → ℕ → Option Shape → Numbers → Shape → Numbers → Mark
 mark_by s g held former h numbers = cond (is_held_as held h && same_numbers s g former numbers) Known New

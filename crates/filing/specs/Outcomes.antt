@@ -1,14 +1,13 @@
 -- The outcome of a filing: a reason found in the register, which comes before any file is read, or the verdict on the file (document 01, "Reasons
 -- found in the register").
-use Rattle.std.specs.Prelude.{ℕ, Bool, true, false, cond, List, pos, take}
+use Rattle.std.specs.Prelude.{ℕ, Bool, true, false, cond, List, pos, take, Option, Err, Ok}
 use Rattle.outcome.specs.declared.Reason.TheVariants.{NoModel, ModelHeld, NoDelivery}
-use Rattle.outcome.specs.declared.Outcome.{Outcome}
-use Rattle.outcome.specs.declared.Outcome.TheVariants.{Accepted, Refused}
 use Rattle.wellformed.specs.Verdict.{model_verdict}
 use Rattle.verdict.specs.Verdict.{verdict}
+use Rattle.delivery.specs.declared.shape.Shape.{Shape}
 use Rattle.held.specs.declared.HeldModel.{HeldModel}
-use Rattle.held.specs.declared.HeldDelivery.{HeldDelivery}
 use Rattle.held.specs.Held.{holds_model, is_held}
+use Rattle.outcome.specs.Outcomes.{Outcome, Accepted, Refused}
 
 -- Filing the model b: 41 where one of this length is held.
 unfoldable pub model_outcome : ℕ → List ℕ → Outcome
@@ -30,8 +29,8 @@ merge_reason true true = Accepted
 
 -- Then the verdict on d alone.
 abbrev pub merge_after : Outcome → Outcome → Outcome
-merge_after Accepted o = o
-merge_after (Refused x i k) o = Refused x i k
+merge_after (Ok u) o = o
+merge_after (Err why) o = Err why
 
-unfoldable pub merge_outcome : HeldModel → HeldDelivery → List ℕ → Outcome
+unfoldable pub merge_outcome : HeldModel → Option Shape → List ℕ → Outcome
 merge_outcome m y d = merge_after (merge_reason (holds_model m.length) (is_held y)) (verdict (file_of m) d)

@@ -10,11 +10,12 @@ ghost use Rattle.filing.specs.Known.{same_numbers, mark_by};
 use calls::Mark;
 use delivery::shape::Shape;
 use held::lists::same;
-use held::{HeldDelivery, HeldModel, Numbers, holds_model, is_held, is_held_as};
+use held::{HeldModel, Numbers, holds_model, is_held, is_held_as};
 use model::sizes::Sizes;
-use outcome::{Outcome, Reason, is_refused, refused};
+use outcome::{Outcome, Reason, refused};
 
 // The outcome of filing a model where one of this length is held, or none.
+#[tactic(auto, unfolding(crate::specs::Outcomes::model_outcome))]
 pub fn model_outcome(length: usize, file: &[u8]) -> Outcome
     ensures { result ≡ model_outcome length file.now }
 {
@@ -25,15 +26,14 @@ pub fn model_outcome(length: usize, file: &[u8]) -> Outcome
 }
 
 // The outcome of filing a delivery for the held model.
+#[tactic(auto, using(held::proofs::Becomes::held_fits), unfolding(crate::specs::Outcomes::delivery_outcome, crate::specs::Outcomes::file_of))]
 pub fn delivery_outcome(held: HeldModel, file: &[u8]) -> Outcome
     ensures { result ≡ delivery_outcome held file.now }
 {
-    let length = held.length;
-    if !holds_model(length) {
+    if !holds_model(held.length) {
         return refused(Reason::NoModel, 0);
     }
-    let bytes = held.bytes;
-    certificate::check(&bytes[..length], file)
+    certificate::check(&held.bytes[..held.length], file)
 }
 
 // The register's own reason to refuse a merge, by whether a model and a delivery are held: none where both are.
@@ -46,43 +46,35 @@ fn merge_reason(model: bool, delivery: bool) -> Outcome
     if !delivery {
         return refused(Reason::NoDelivery, 0);
     }
-    Outcome::Accepted
+    Ok(())
 }
 
 // The outcome of merging the held delivery with a second one.
-pub fn merge_outcome(held: HeldModel, delivery: HeldDelivery, file: &[u8]) -> Outcome
+#[tactic(auto, unfolding(crate::specs::Outcomes::merge_outcome, crate::specs::Outcomes::delivery_outcome))]
+pub fn merge_outcome(held: HeldModel, delivery: Option<Shape>, file: &[u8]) -> Outcome
     ensures { result ≡ merge_outcome held delivery file.now }
 {
-    let length = held.length;
-    let own = merge_reason(holds_model(length), is_held(delivery));
-    if is_refused(own) {
-        return own;
-    }
+    merge_reason(holds_model(held.length), is_held(delivery))?;
     delivery_outcome(held, file)
 }
 
 // Whether two deliveries have the same numbers: uppers and lowers of the entries, mean steps of the rows.
+#[tactic(auto, using(crate::proofs::Known::same_exactly), unfolding(crate::specs::Known::same_numbers))]
 fn same_numbers(n: Sizes, former: Numbers, numbers: Numbers) -> bool
     requires { Fits n.states n.symbols }
     ensures { result ≡ same_numbers n.states n.symbols former numbers }
 {
-    let former_uppers = former.uppers;
-    let former_lowers = former.lowers;
-    let former_means = former.means;
-    let uppers = numbers.uppers;
-    let lowers = numbers.lowers;
-    let means = numbers.means;
     let v = n.entries();
-    let rows = n.rows();
-    same(&former_uppers, &uppers, v)
-        & same(&former_lowers, &lowers, v)
-        & same(&former_means, &means, rows)
+    same(&former.uppers, &numbers.uppers, v)
+        && same(&former.lowers, &numbers.lowers, v)
+        && same(&former.means, &numbers.means, n.rows())
 }
 
 // The mark of a delivery of this shape with these numbers, by what was held before it.
+#[tactic(auto, unfolding(crate::specs::Known::mark_by))]
 pub fn mark_by(
     n: Sizes,
-    held: HeldDelivery,
+    held: Option<Shape>,
     former: Numbers,
     shape: Shape,
     numbers: Numbers,
@@ -90,7 +82,7 @@ pub fn mark_by(
     requires { Fits n.states n.symbols }
     ensures { result ≡ mark_by n.states n.symbols held former shape numbers }
 {
-    if is_held_as(held, shape) & same_numbers(n, former, numbers) {
+    if is_held_as(held, shape) && same_numbers(n, former, numbers) {
         Mark::Known
     } else {
         Mark::New

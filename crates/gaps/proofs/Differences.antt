@@ -3,7 +3,6 @@ use Prim.Native.Nat.{ℕ, ◌-◌, ◌*◌, ◌/◌, ◌%◌, ◌≤◌, ◌<◌
 use mathlib.Core.List.{List}
 use mathlib.Core.Path.{◌≡◌, ap₂, subst, ◌∙◌}
 use lib.ListN.{length, take, get_or}
-use Rattle.outcome.specs.declared.Outcome.TheVariants.{Accepted}
 use Rattle.ppda.specs.Units.{chance_unit, sum_unit}
 use Rattle.walks.specs.Order.{entries_in, row_at}
 use Rattle.ppda.specs.Equations.{f, Same}
@@ -15,7 +14,6 @@ use Rattle.model.specs.Clauses.{Sized}
 use Rattle.model.specs.Rules.{rules_of}
 use Rattle.model.proofs.Accepted.{sized_model}
 use Rattle.delivery.specs.Format.{record_bytes}
-use Rattle.delivery.specs.declared.shape.Shaped.TheVariants.{Of}
 use Rattle.delivery.specs.Shapes.{shape_of}
 use Rattle.delivery.specs.Numbers.{uppers_of}
 use Rattle.delivery.proofs.Shapes.{uppers_fit}
@@ -29,6 +27,8 @@ use Rattle.certificate.proofs.Blocks.{part_same}
 use Rattle.certificate.proofs.Rest.{uppers_within}
 use Rattle.certificate.proofs.Steps.{sized_by_verdict}
 use Rattle.gaps.specs.Clauses.{Gaps}
+use Rattle.outcome.specs.Outcomes.{Accepted}
+use Rattle.std.specs.Prelude.{Some}
 
 -- ---- every entry, by its number
 
@@ -46,7 +46,7 @@ gaps_filled b d l n filled p z q hp hz hq =
 -- ---- the first k records of an accepted delivery, where k is the number of entries
 
 module _ {b : List ℕ} (d : List ℕ) {s g k : ℕ} (sized : Sized b s g) (accepted : verdict b d ≡ Accepted) (e : k ≡ entries_in s g) where
-  shaped : shape_of s g d ≡ Of ((delivery_accepted b d).0 accepted).shaped
+  shaped : shape_of s g d ≡ Some ((delivery_accepted b d).0 accepted).shaped
   shaped = rw (sized.states, sized.symbols) ((delivery_accepted b d).0 accepted).delivery.shape
 
   uppers_right : UppersRight b s g d

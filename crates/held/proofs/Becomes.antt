@@ -7,7 +7,6 @@ use mathlib.Core.Path.{◌≡◌}
 use lib.Dec.{ltb, leb}
 use lib.ListN.{length}
 use borrow.Author.Tests.{leb-true}
-use Rattle.outcome.specs.declared.Outcome.TheVariants.{Accepted}
 use Rattle.model.specs.declared.sizes.Sizes.{Sizes}
 use Rattle.model.specs.Format.{most_bytes}
 use Rattle.model.specs.Records.{states_of, symbols_of}
@@ -15,7 +14,6 @@ use Rattle.model.specs.Sizes.{sizes_of}
 use Rattle.wellformed.specs.Verdict.{model_verdict}
 use Rattle.wellformed.proofs.Accepted.{model_accepted}
 use Rattle.delivery.specs.declared.shape.Shape.{Shape}
-use Rattle.delivery.specs.declared.shape.Shaped.TheVariants.{Of}
 use Rattle.delivery.specs.Shapes.{has_lowers, has_means, shape_of}
 use Rattle.delivery.specs.Numbers.{uppers_of, lowers_of, means_of}
 use Rattle.verdict.specs.Marks.{live_mark}
@@ -27,6 +25,8 @@ use Rattle.held.specs.declared.Numbers.{Numbers}
 use Rattle.held.specs.Held.{filled, listed_by_exit, listed_rows, if_standing, model_held, numbers_held, holds_model, shape_as}
 use Rattle.held.specs.Clauses.{Marks}
 use Rattle.held.proofs.Listed.{live_listed}
+use Rattle.outcome.specs.Outcomes.{Accepted}
+use Rattle.std.specs.Prelude.{Some}
 
 -- ---- an accepted model
 
@@ -48,10 +48,10 @@ held_fits n holds = leb-true n most_bytes ((and-eq-true_iff (ltb 0 n) (leb n mos
 
 -- An accepted delivery has its shape.
 pub shape_by_verdict : (b d : List ℕ) {n : Sizes} {h : Shape} → n ≡ sizes_of b → verdict b d ≡ Accepted
-    → h ≡ shape_as (shape_of n.states n.symbols d) → shape_of n.states n.symbols d ≡ Of h
+    → h ≡ shape_as (shape_of n.states n.symbols d) → shape_of n.states n.symbols d ≡ Some h
 shape_by_verdict b d {n} same accepted is =
     let filed = (delivery_accepted b d).0 accepted in
-    let shape : shape_of n.states n.symbols d ≡ Of filed.shaped = rw same filed.delivery.shape in
+    let shape : shape_of n.states n.symbols d ≡ Some filed.shaped = rw same filed.delivery.shape in
     rw (is, shape)
 
 module _ (b d : List ℕ) {s g : ℕ} (states : s ≡ states_of b) (symbols : g ≡ symbols_of b) where

@@ -1,14 +1,12 @@
 -- What the tests of a row and of an entry say, and the number of a row or of an entry by whether the model has it.
 use Prim.Native.Nat.{ℕ, ◌<◌}
-use mathlib.Core.Bool.{Bool, true, false}
+use mathlib.Core.Bool.{true, false}
 use mathlib.Core.List.{List}
 use mathlib.Core.Logic.{◌↔◌}
 use mathlib.Core.Path.{◌≡◌}
 use lib.Dec.{ltb}
 use Rattle.walks.proofs.Exactly.{lt_exactly, both}
 use Rattle.ppda.specs.Equations.{entries, rows}
-use Rattle.model.specs.declared.sizes.Sizes.{Sizes}
-use Rattle.model.specs.Clauses.{Narrow}
 use Rattle.held.specs.Places.{has_row, has_entry, row_value, entry_value, entries_by_exit, exit_value}
 
 pub row_exactly : (s g p z : ℕ) → (has_row s g p z ≡ true) ↔ ((p < s) × (z < g))
@@ -42,24 +40,3 @@ no_exit s g l p z q e = rw e
 pub exit_there : (s g : ℕ) (l : List ℕ) (p z q : ℕ) → has_entry s g p z q ≡ true → exit_value s g l p z q ≡ entries_by_exit s g l p z q
 unfolding exit_value
 exit_there s g l p z q e = rw e
-
--- ---- the same by the sizes that are held
-
-module _ {s g : ℕ} {n : Sizes} (states : n.states ≡ s) (symbols : n.symbols ≡ g) where
-  pub narrow_held : Narrow s g → Narrow n.states n.symbols
-  narrow_held narrow = rw (states, symbols) narrow
-
-  pub has_row_held : (p z : ℕ) {t : Bool} → t ≡ has_row n.states n.symbols p z → t ≡ has_row s g p z
-  has_row_held p z e = rw (states, symbols) at e
-
-  pub has_entry_held : (p z q : ℕ) {t : Bool} → t ≡ has_entry n.states n.symbols p z q → t ≡ has_entry s g p z q
-  has_entry_held p z q e = rw (states, symbols) at e
-
-  pub row_value_held : (l : List ℕ) (p z : ℕ) {v : ℕ} → v ≡ row_value n.states n.symbols l p z → v ≡ row_value s g l p z
-  row_value_held l p z e = rw (states, symbols) at e
-
-  pub entry_value_held : (l : List ℕ) (p z q : ℕ) {v : ℕ} → v ≡ entry_value n.states n.symbols l p z q → v ≡ entry_value s g l p z q
-  entry_value_held l p z q e = rw (states, symbols) at e
-
-  pub exit_value_held : (l : List ℕ) (p z q : ℕ) {v : ℕ} → v ≡ exit_value n.states n.symbols l p z q → v ≡ exit_value s g l p z q
-  exit_value_held l p z q e = rw (states, symbols) at e

@@ -1,18 +1,16 @@
 -- Lists as the register holds them: a list of h 0, h 1, … is what its length and its numbers say, so a list that the code fills is the
 -- definition's, and reading it gives the vector, the rows or the file back, in the order of files and by exit.
-use Prim.Native.Nat.{ℕ, zero, suc, ◌+◌, ◌*◌, ◌/◌, ◌%◌, ◌≤◌, ◌<◌}
+use Prim.Native.Nat.{ℕ, zero, suc, ◌+◌, ◌-◌, ◌*◌, ◌/◌, ◌%◌, ◌≤◌, ◌<◌}
 use native.Mathlib.Omega.{arith}
-use mathlib.Core.Bool.{Bool, true, false, cond}
-use mathlib.Core.List.{List, []}
+use mathlib.Core.Bool.{Bool, true, false, cond, false≢true}
+use mathlib.Core.List.{List, ◌++◌}
 use mathlib.Core.Logic.{◌⊎◌, inl, inr}
-use mathlib.Core.Path.{◌≡◌, refl, sym, ap, subst, ◌∙◌}
+use mathlib.Core.Path.{◌≡◌, refl, sym, ap, ◌∙◌}
 use lib.Dec.{eqb, ltb}
-use lib.IntN.{ℤ}
-use lib.ListN.{length, get_or, take, set, replicate, length-take, length-set, length-replicate, get_or-eq_default}
-use lib.Seq.{take_all, ext_get_or, get_or-take, get_or-set_same, get_or-set_other, length-take-le}
+use lib.ListN.{length, get_or, take, drop, set, replicate, length-append, length-set, length-replicate, get_or-append, get_or-eq_default}
+use lib.Seq.{ext_get_or, get_or-append_right, get_or-take, get_or-set_same, get_or-set_other, length-take-le}
+use Rattle.std.proofs.lemmas.List.{drop-replicate}
 use borrow.Author.Tests.{ltb-true, ltb-false, lt-ltb, le-ltb, eqb-true, eqb-false}
-use Rattle.outcome.specs.declared.Reason.{Reason}
-use Rattle.outcome.specs.declared.Outcome.TheVariants.{Refused}
 use Rattle.walks.specs.Order.{entries_in, row_at, entry_in, entry_at, exit_in, by_exit}
 use Rattle.ppda.specs.Equations.{Vector, RowVector, entries, rows, SameRows, Same}
 use Rattle.ppda.specs.Live.{alive}
@@ -29,12 +27,13 @@ use Rattle.wellformed.proofs.Accepted.{model_accepted}
 use Rattle.delivery.specs.Records.{value_at}
 use Rattle.delivery.specs.Numbers.{uppers_of}
 use Rattle.delivery.specs.Clauses.{rows_of_block}
-use Rattle.rows.proofs.Ranges.{set_more}
 use Rattle.live.specs.Clauses.{bit_of, exit_marks, ExitsOf}
-use Rattle.verdict.specs.Marks.{live_mark}
+use Rattle.verdict.specs.Marks.{mark_under, live_mark}
 use Rattle.held.specs.Held.{padded, listed, listed_by_exit, listed_rows, filled}
 use Rattle.held.specs.Places.{entries_by_exit}
 use Rattle.held.specs.Clauses.{Values, Marks}
+use Rattle.outcome.specs.Outcomes.{Outcome, is_refused}
+use Rattle.std.specs.Prelude.{Ok, Err}
 
 -- ---- numbers in the first places
 
@@ -175,58 +174,21 @@ filled_back n b fits =
     let under : i < length b = omega arith in
     get_or-take (length b) (filled n b) i 0 under ∙ get_d_list_to _ n i (omega arith))
 
--- No bytes are in place, then one more, then all.
-pub filled_none : (n : ℕ) → replicate n 0 ≡ filled n []
+-- The file, and zeros up to the last place.
+pub filled_by : (n : ℕ) (b : List ℕ) → length b ≤ n → b ++ drop (length b) (replicate n 0) ≡ filled n b
 unfolding filled
-filled_none n = list_to_ext n (length-replicate {A = ℕ} n 0) (λ e lt. get_d_zeros n e)
-
-pub filled_step : (n : ℕ) (b : List ℕ) (i : ℕ) {l : List ℕ} → l ≡ filled n (take i b) → i < n → i < length b
-    → set l i (get_or b i 0) ≡ filled n (take (i + 1) b)
-unfolding filled
-filled_step n b i is here lt =
-    rw is
-    (list_to_ext n (length-set (filled n (take i b)) i (get_or b i 0) ∙ length_filled n (take i b))
-    (λ e under. go e under (eqb e i) refl (ltb e i) refl))
+filled_by n b fits =
+    rw (drop-replicate {X = ℕ} (length b) n 0)
+    (list_to_ext n (omega (arith, length-append b (replicate (n - length b) 0), length-replicate {A = ℕ} (n - length b) 0)) (λ e lt. go e (less_or_not e (length b))))
   where
-    go : (e : ℕ) → e < n → (t : Bool) → eqb e i ≡ t → (u : Bool) → ltb e i ≡ u
-        → get_or (set (filled n (take i b)) i (get_or b i 0)) e 0 ≡ get_or (take (i + 1) b) e 0
-    go e under true q u w =
-        let r : e ≡ i = eqb-true e i q in
-        rw r (get_or-set_same (filled n (take i b)) i (get_or b i 0) 0 (rw (length_filled n (take i b)) here)
-        ∙ sym (get_or-take (i + 1) b i 0 (omega arith)))
-    go e under false q true w =
-        let lower : e < i = ltb-true e i w in
-        get_or-set_other (filled n (take i b)) i e (get_or b i 0) 0 (eqb-false e i q) ∙ get_d_list_to _ n e under
-        ∙ get_or-take i b e 0 lower ∙ sym (get_or-take (i + 1) b e 0 (omega arith))
-    go e under false q false w =
-        let r : e ≡ i → ⊥ = eqb-false e i q in
-        let above : i ≤ e = ltb-false e i w in
-        get_or-set_other (filled n (take i b)) i e (get_or b i 0) 0 r ∙ get_d_list_to _ n e under
-        ∙ get_or-eq_default (take i b) 0 (omega (arith, length-take i b))
-        ∙ sym (get_or-eq_default (take (i + 1) b) 0 (omega (arith, length-take (i + 1) b)))
-
-pub filled_end : (n : ℕ) (b : List ℕ) (i : ℕ) {l : List ℕ} → l ≡ filled n (take i b) → length b ≤ i → l ≡ filled n b
-filled_end n b i is done = is ∙ ap (filled n) (take_all i b done)
+    go : (e : ℕ) → (e < length b) ⊎ (length b ≤ e) → get_or (b ++ replicate (n - length b) 0) e 0 ≡ get_or b e 0
+    go e (inl lt) = get_or-append b (replicate (n - length b) 0) 0 e lt
+    go e (inr le) = get_or-append_right b (replicate (n - length b) 0) e 0 le ∙ get_d_zeros (n - length b) (e - length b) ∙ sym (get_or-eq_default b 0 le)
 
 -- ---- the values of the first n records
 
 pub values_none : (d : List ℕ) → Values d 0 (replicate most_entries 0)
 values_none d = record { size = length-replicate {A = ℕ} most_entries 0; value = λ e h. absurd (omega arith); none = λ e h. get_d_zeros most_entries e }
-
-pub values_step : {d : List ℕ} {n : ℕ} {l : List ℕ} (v : ℕ) → Values d n l → n < most_entries → v ≡ value_at d n → Values d (n + 1) (set l n v)
-values_step {d} {n} {l} v before room e =
-    record {
-      size = length-set l n v ∙ before.size;
-      value = λ i h. go i h (eqb i n) refl;
-      none = λ i h. get_or-set_other l n i v 0 (λ q. omega arith) ∙ before.none i (omega arith);
-    }
-  where
-    go : (i : ℕ) → i < n + 1 → (t : Bool) → eqb i n ≡ t → get_or (set l n v) i 0 ≡ value_at d i
-    go i h true u = let q : i ≡ n = eqb-true i n u in rw q (get_or-set_same l n v 0 (omega (arith, before.size)) ∙ e)
-    go i h false u = let q : i ≡ n → ⊥ = eqb-false i n u in get_or-set_other l n i v 0 q ∙ before.value i (omega arith)
-
-pub values_end : {d : List ℕ} {n m : ℕ} {l : List ℕ} → Values d n l → n ≡ m → Values d m l
-values_end {d} {l = l} v e = subst (λ k. Values d k l) e v
 
 pub values_rows : (s g : ℕ) {d l : List ℕ} → Values d (s * g) l → SameRows s g (rows g l) (rows_of_block g d)
 values_rows s g values p z hp hz = values.value (row_at g p z) (row_below s g p z hp hz)
@@ -259,14 +221,6 @@ entries_none s live n size =
     record { size = length-replicate n 0 ∙ size; done = λ i h. absurd (omega arith); none = λ i h. get_d_zeros n i }
 
 module _ {s : ℕ} {live : List ℕ} {e : ℕ} {l : List ℕ} (to : EntriesTo s live e l) where
-  pub entries_more : {m : ℕ} → e < most_entries → m ≡ bit_of (get_or live (e / s) 0) (e % s) → EntriesTo s live (e + 1) (set l e m)
-  entries_more {m} below here =
-      record {
-        size = length-set l e m ∙ to.size;
-        done = set_more (λ i n. n ≡ bit_of (get_or live (i / s) 0) (i % s)) l (omega (arith, to.size)) to.done here;
-        none = λ i h. get_or-set_other l e i m 0 (λ u. omega arith) ∙ to.none i (omega arith);
-      }
-
   pub entries_all : (g : ℕ) → e ≡ entries_in s g → Marks s g (exit_marks g live) l
   entries_all g all =
       record { size = to.size; marks = marks; none = λ i h. to.none i (omega arith) }
@@ -280,10 +234,19 @@ module _ {s : ℕ} {live : List ℕ} {e : ℕ} {l : List ℕ} (to : EntriesTo s 
 -- ---- the live marks that are shown
 
 -- Nothing of a refused model is live.
-pub none_live : (b : List ℕ) (n : ℕ) {r : Reason} {i : ℕ} {k : ℤ} → n ≡ most_entries → model_verdict b ≡ Refused r i k → Marks (states_of b) (symbols_of b) (live_mark b) (replicate n 0)
+no_mark : (o : Outcome) (a : ℕ) → is_refused o ≡ true → mark_under o a ≡ 0
+no_mark (Ok u) a e = absurd (false≢true e)
+no_mark (Err why) a e = refl
+
+pub none_live : (b : List ℕ) (n : ℕ) → is_refused (model_verdict b) ≡ true → n ≡ most_entries
+    → Marks (states_of b) (symbols_of b) (live_mark b) (replicate n 0)
 unfolding live_mark
-none_live b n size e =
-    record { size = length-replicate n 0 ∙ size; marks = λ p z q hp hz hq. rw e (get_d_zeros n _); none = λ i h. get_d_zeros n i }
+none_live b n e size =
+    record {
+      size = length-replicate n 0 ∙ size;
+      marks = λ p z q hp hz hq. get_d_zeros n _ ∙ sym (no_mark (model_verdict b) _ e);
+      none = λ i h. get_d_zeros n i;
+    }
 
 -- The marks of an accepted model.
 pub live_of : {b live l : List ℕ} {s g : ℕ} → Sized b s g → ExitsOf s g (alive (rules_of b) s g) live → Marks s g (exit_marks g live) l

@@ -1,21 +1,17 @@
 -- What the register holds, as values: document 01's model and delivery, the delivery's shape beside its numbers ("Deliveries").
-use Rattle.std.specs.Prelude.{ℕ, Bool, true, false, cond, ◌&&◌, List, ltb, leb, length, get_or, replicate}
+use Rattle.std.specs.Prelude.{ℕ, Bool, true, false, cond, ◌&&◌, List, ltb, leb, length, get_or, replicate, Option, Some, None}
 use Rattle.ppda.specs.Equations.{Vector, RowVector}
 use Rattle.model.specs.Format.{most_bytes, most_entries}
 use Rattle.model.specs.Records.{states_of, symbols_of}
 use Rattle.walks.specs.Lists.{list_to}
 use Rattle.delivery.specs.declared.shape.Shape.{Shape}
 use Rattle.delivery.specs.declared.shape.Shape.TheVariants.{U}
-use Rattle.delivery.specs.declared.shape.Shaped as Shapes
-use Rattle.delivery.specs.declared.shape.Shaped.TheVariants as Shaped
 use Rattle.delivery.specs.Shapes.{has_lowers, has_means, same_shape}
 use Rattle.walks.specs.Order.{entries_in, rows_in, by_row, by_entry, by_exit}
 use Rattle.delivery.specs.Numbers.{uppers_of, lowers_of, means_of}
 use Rattle.verdict.specs.Marks.{live_mark}
 use Rattle.certificate.specs.Margin.{margin_of}
 use Rattle.held.specs.declared.HeldModel.{HeldModel}
-use Rattle.held.specs.declared.HeldDelivery.{HeldDelivery}
-use Rattle.held.specs.declared.HeldDelivery.TheVariants.{Nothing, Of}
 use Rattle.held.specs.declared.Numbers.{Numbers}
 
 -- The first n numbers of a list with a place for each entry that there may be are h 0, h 1, …, and the others 0.
@@ -75,29 +71,29 @@ unfoldable pub holds_model : ℕ → Bool
 holds_model n = ltb 0 n && leb n most_bytes
 
 -- Whether a delivery is held.
-abbrev pub is_held : HeldDelivery → Bool
-is_held Nothing = false
-is_held (Of h) = true
+abbrev pub is_held : Option Shape → Bool
+is_held None = false
+is_held (Some h) = true
 
 -- Its shape, where one is held.
-abbrev pub shape_held : HeldDelivery → Shape
-shape_held Nothing = U
-shape_held (Of h) = h
+abbrev pub shape_held : Option Shape → Shape
+shape_held None = U
+shape_held (Some h) = h
 
 -- Whether one of shape k is held, one with lowers, one with mean steps.
-abbrev pub is_held_as : HeldDelivery → Shape → Bool
-is_held_as Nothing k = false
-is_held_as (Of h) k = same_shape h k
+abbrev pub is_held_as : Option Shape → Shape → Bool
+is_held_as None k = false
+is_held_as (Some h) k = same_shape h k
 
-abbrev pub lowers_stand : HeldDelivery → Bool
-lowers_stand Nothing = false
-lowers_stand (Of h) = has_lowers h
+abbrev pub lowers_stand : Option Shape → Bool
+lowers_stand None = false
+lowers_stand (Some h) = has_lowers h
 
-abbrev pub means_stand : HeldDelivery → Bool
-means_stand Nothing = false
-means_stand (Of h) = has_means h
+abbrev pub means_stand : Option Shape → Bool
+means_stand None = false
+means_stand (Some h) = has_means h
 
 -- The shape of an accepted delivery, which is never unknown.
-abbrev pub shape_as : Shapes.Shaped → Shape
-shape_as (Shaped.Of h) = h
-shape_as Shaped.Unknown = U
+abbrev pub shape_as : Option Shape → Shape
+shape_as (Some h) = h
+shape_as None = U

@@ -1,7 +1,7 @@
 // What an accepted file becomes in the register.
 
 ghost use Rattle.std.specs.Prelude.{◌≡◌, cond, ◌≤◌, length};
-ghost use Rattle.outcome.specs.declared.Outcome.TheVariants.{Accepted};
+ghost use Rattle.outcome.specs.Outcomes.{Accepted};
 ghost use Rattle.model.specs.Format.{most_bytes};
 ghost use Rattle.model.specs.Clauses.{Fits};
 ghost use Rattle.wellformed.specs.Verdict.{model_verdict};
@@ -16,7 +16,7 @@ use super::lists::{live_marks, values, values_by_exit};
 use super::{HeldModel, Numbers};
 use certificate::margins::margin_with_lowers;
 use delivery::format::RECORD_BYTES;
-use delivery::shape::{Shape, Shaped, has_lowers, has_means, means_from, shape_of};
+use delivery::shape::{Shape, has_lowers, has_means, means_from, shape_of};
 use model::format::{MOST_BYTES, MOST_ENTRIES};
 use model::sizes::{Sizes, sizes_of};
 
@@ -26,11 +26,7 @@ fn copied(file: &[u8]) -> [u8; MOST_BYTES]
     ensures { result ≡ filled most_bytes file.now }
 {
     let mut bytes = [0u8; MOST_BYTES];
-    let mut i = 0;
-    while i < file.len() {
-        bytes[i] = file[i];
-        i += 1;
-    }
+    bytes[..file.len()].copy_from_slice(file);
     bytes
 }
 
@@ -39,15 +35,14 @@ pub fn model_of(file: &[u8]) -> HeldModel
     requires { model_verdict file.now ≡ Accepted }
     ensures { result ≡ model_held file.now }
 {
-    let length = file.len();
     let n = sizes_of(file);
-    let s = n.states as u8;
-    let g = n.symbols as u16;
+    let states = n.states as u8;
+    let symbols = n.symbols as u16;
     HeldModel {
         bytes: copied(file),
-        length,
-        states: s,
-        symbols: g,
+        length: file.len(),
+        states,
+        symbols,
         live: live_marks(file),
     }
 }
@@ -57,10 +52,7 @@ pub fn shape_for(delivery: &[u8], n: Sizes) -> Shape
     requires { Fits n.states n.symbols }
     ensures { result ≡ shape_as (shape_of n.states n.symbols delivery.now) }
 {
-    match shape_of(delivery, n) {
-        Shaped::Of(shape) => shape,
-        Shaped::Unknown => Shape::U,
-    }
+    shape_of(delivery, n).unwrap_or(Shape::U)
 }
 
 // The lowers of a delivery of this shape, by exit, or zeros.

@@ -23,13 +23,6 @@ pub struct HeldModel {
     pub live: [u32; MOST_ENTRIES],
 }
 
-// What is held of deliveries: none, or one of the four shapes.
-#[derive(Clone, Copy)]
-pub enum HeldDelivery {
-    Nothing,
-    Of(Shape),
-}
-
 // The numbers of a held delivery, and its margin: 0 where there are none. Uppers and lowers stand by exit (request A.6), mean steps in the order of files.
 #[derive(Clone, Copy)]
 pub struct Numbers {
@@ -40,63 +33,50 @@ pub struct Numbers {
 }
 
 // Whether a model of this length is held.
+#[tactic(auto, unfolding(crate::specs::Held::holds_model))]
 pub fn holds_model(length: usize) -> bool
     ensures { result ≡ holds_model length }
 {
-    (0 < length) & (length <= MOST_BYTES)
+    0 < length && length <= MOST_BYTES
 }
 
 // Whether a delivery is held.
-pub fn is_held(delivery: HeldDelivery) -> bool
+pub fn is_held(delivery: Option<Shape>) -> bool
     ensures { result ≡ is_held delivery }
 {
-    match delivery {
-        HeldDelivery::Nothing => false,
-        HeldDelivery::Of(_) => true,
-    }
+    delivery.is_some()
 }
 
 // The shape of the held delivery, where one is held.
-pub fn shape_held(delivery: HeldDelivery) -> Shape
+pub fn shape_held(delivery: Option<Shape>) -> Shape
     ensures { result ≡ shape_held delivery }
 {
-    match delivery {
-        HeldDelivery::Nothing => Shape::U,
-        HeldDelivery::Of(shape) => shape,
-    }
+    delivery.unwrap_or(Shape::U)
 }
 
 // Whether a delivery of this shape is held.
-pub fn is_held_as(delivery: HeldDelivery, shape: Shape) -> bool
+pub fn is_held_as(delivery: Option<Shape>, shape: Shape) -> bool
     ensures { result ≡ is_held_as delivery shape }
 {
-    match delivery {
-        HeldDelivery::Nothing => false,
-        HeldDelivery::Of(former) => shape::same_shape(former, shape),
-    }
+    delivery.is_some_and(|former| shape::same_shape(former, shape))
 }
 
 // Whether a delivery with lowers is held.
-pub fn lowers_stand(delivery: HeldDelivery) -> bool
+pub fn lowers_stand(delivery: Option<Shape>) -> bool
     ensures { result ≡ lowers_stand delivery }
 {
-    match delivery {
-        HeldDelivery::Nothing => false,
-        HeldDelivery::Of(shape) => shape::has_lowers(shape),
-    }
+    delivery.is_some_and(shape::has_lowers)
 }
 
 // Whether a delivery with mean steps is held.
-pub fn means_stand(delivery: HeldDelivery) -> bool
+pub fn means_stand(delivery: Option<Shape>) -> bool
     ensures { result ≡ means_stand delivery }
 {
-    match delivery {
-        HeldDelivery::Nothing => false,
-        HeldDelivery::Of(shape) => shape::has_means(shape),
-    }
+    delivery.is_some_and(shape::has_means)
 }
 
 // No model.
+#[tactic(auto, unfolding(crate::specs::Held::no_model))]
 pub fn no_model() -> HeldModel
     ensures { result ≡ no_model }
 {
@@ -110,6 +90,7 @@ pub fn no_model() -> HeldModel
 }
 
 // No delivery's numbers.
+#[tactic(auto, unfolding(crate::specs::Held::no_numbers))]
 pub fn no_numbers() -> Numbers
     ensures { result ≡ no_numbers }
 {

@@ -16,29 +16,14 @@ use live::exits::mark;
 use live::rounds::find_marks;
 use model::format::{MOST_ENTRIES, MOST_ROWS};
 use model::sizes::{Sizes, sizes_of};
-use outcome::Outcome;
 use rows::{STARTS, find_starts};
-
-// A listed number as a wider one.
-pub(crate) fn wide(n: u32) -> u64
-    ensures { (result ≡ n) × (n < 2 ^ 32) }
-{
-    n as u64
-}
 
 // Whether the first n numbers are the same.
 pub fn same(a: &[u32; MOST_ENTRIES], b: &[u32; MOST_ENTRIES], n: usize) -> bool
     requires { n ≤ most_entries }
     ensures { (result ≡ true) ↔ ((e : ℕ) → e < n → get_or a.now e 0 ≡ get_or b.now e 0) }
 {
-    let mut e = 0;
-    while e < n {
-        if a[e] != b[e] {
-            return false;
-        }
-        e += 1;
-    }
-    true
+    a[..n] == b[..n]
 }
 
 // The values of the first n records of a block, in their order.
@@ -47,10 +32,8 @@ pub(crate) fn values(block: &[u8], n: usize) -> [u32; MOST_ENTRIES]
     ensures { Values block.now n result }
 {
     let mut values = [0u32; MOST_ENTRIES];
-    let mut e = 0;
-    while e < n {
+    for e in 0..n {
         values[e] = value_at(block, e) as u32;
-        e += 1;
     }
     values
 }
@@ -60,13 +43,10 @@ fn put_exit(block: &[u8], n: Sizes, q: usize, list: &mut [u32; MOST_ENTRIES])
     requires { HasEntries n block.now × (q < n.states) × (list.old ≡ exits_to n block.now q) }
     ensures { list.new ≡ exits_to n block.now (q + 1) }
 {
-    let rows = n.rows();
-    let mut row = 0;
-    while row < rows {
+    for row in 0..n.rows() {
         let e = n.entry_in(row, q);
         let at = n.exit_in(row, q);
         list[at] = value_at(block, e) as u32;
-        row += 1;
     }
 }
 
@@ -75,12 +55,9 @@ pub fn values_by_exit(block: &[u8], n: Sizes) -> [u32; MOST_ENTRIES]
     requires { HasEntries n block.now }
     ensures { result ≡ listed_by_exit n.states n.symbols (uppers_of n.states n.symbols block.now) }
 {
-    let s = n.states;
     let mut list = [0u32; MOST_ENTRIES];
-    let mut q = 0;
-    while q < s {
+    for q in 0..n.states {
         put_exit(block, n, q, &mut list);
-        q += 1;
     }
     list
 }
@@ -91,12 +68,9 @@ fn by_entries(live: &[u8; MOST_ROWS], n: Sizes) -> [u32; MOST_ENTRIES]
     ensures { Marks n.states n.symbols (exit_marks n.symbols live.now) result }
 {
     let s = n.states;
-    let most = n.entries();
     let mut marks = [0u32; MOST_ENTRIES];
-    let mut e = 0;
-    while e < most {
+    for e in 0..n.entries() {
         marks[e] = mark(live, e / s, e % s) as u32;
-        e += 1;
     }
     marks
 }
@@ -105,8 +79,7 @@ fn by_entries(live: &[u8; MOST_ROWS], n: Sizes) -> [u32; MOST_ENTRIES]
 pub fn live_marks(model: &[u8]) -> [u32; MOST_ENTRIES]
     ensures { Marks (states_of model.now) (symbols_of model.now) (live_mark model.now) result }
 {
-    let found = wellformed::check(model);
-    if let Outcome::Refused { .. } = found {
+    if wellformed::check(model).is_err() {
         return [0u32; MOST_ENTRIES];
     }
     let n = sizes_of(model);

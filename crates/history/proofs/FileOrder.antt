@@ -7,8 +7,6 @@ use mathlib.Core.Logic.Iff
 use mathlib.Core.Option.{Option, none, some}
 use mathlib.Core.Path.{◌≡◌, refl, sym, ap, subst, ◌∙◌}
 use lib.ListN.{length}
-use Rattle.outcome.specs.declared.Outcome.{Outcome}
-use Rattle.outcome.specs.declared.Outcome.TheVariants.{Accepted, Refused}
 use Rattle.walks.specs.Order.{entries_in, entry_at, exit_place}
 use Rattle.walks.proofs.Lists.{get_d_zeros}
 use Rattle.walks.proofs.Exactly.{same_test}
@@ -24,7 +22,6 @@ use Rattle.delivery.proofs.Shapes.{same_shape_lem}
 use Rattle.verdict.specs.Verdict.{verdict}
 use Rattle.verdict.specs.Accepted.{RightFiles}
 use Rattle.verdict.proofs.Accepted.{delivery_accepted}
-use Rattle.held.specs.declared.HeldDelivery.TheVariants.{Of}
 use Rattle.held.specs.Held.{listed, listed_by_exit, if_standing, model_held, numbers_held, holds_model}
 use Rattle.held.specs.Places.{has_entry, entries_by_exit, entry_value, exit_value}
 use Rattle.held.proofs.Bounds.{entry_exactly}
@@ -49,6 +46,8 @@ use Rattle.history.specs.ByExit.{SameAnswers}
 use Rattle.history.proofs.Same.{same_listed}
 use Rattle.history.proofs.Pairs.{Right, WayOfHolding, as_held, model_there, file_there, model_filed, model_next, counter_filed, counter_next, few_entries, held_length, model_right, model_held_lem, delivery_by_verdict, merge_by_verdict, joined_is, cleared_holds, mark_taken, pair_after}
 use Rattle.history.proofs.Plain.{holds_pair, right_pair, as_plain_pair}
+use Rattle.outcome.specs.Outcomes.{Outcome, Accepted, Refused}
+use Rattle.std.specs.Prelude.{Some, Err, Ok}
 
 -- ---- what is held either way
 
@@ -87,8 +86,8 @@ module _ (b e d : List ℕ) (few : entries_in (states_of b) (symbols_of b) ≤ m
       rw (uppers, same_either_way s g few (has_lowers h) (lowers_of s g e) (lowers_of s g d))
 
   marks_alike : (h k : Shape)
-      → mark_by (states_of b) (symbols_of b) (Of h) (numbers_held b h e) k (numbers_held b k d)
-      ≡ mark_by (states_of b) (symbols_of b) (Of h) (numbers_by_file b h e) k (numbers_by_file b k d)
+      → mark_by (states_of b) (symbols_of b) (Some h) (numbers_held b h e) k (numbers_held b k d)
+      ≡ mark_by (states_of b) (symbols_of b) (Some h) (numbers_by_file b h e) k (numbers_by_file b k d)
   unfolding mark_by
   marks_alike h k = ap (λ t. cond t Known New) (go (same_shape h k) refl)
     where
@@ -132,10 +131,10 @@ module _ (b : List ℕ) where
 
   -- A delivery's mark, by what is held.
   mark_by_file : (y : Option (List ℕ)) → Right (some b) y → (d : List ℕ)
-      → (delivery_by_file Accepted (by_file (some b) y) b d).mark ≡ (received (holding (some b) y) b (shape_for b d) d).mark
+      → (delivery_by_file Accepted (by_file (some b) y) b d).receipt ≡ (received (holding (some b) y) b (shape_for b d) d).receipt
   unfolding mark_by with_model
   mark_by_file none right d = refl
-  mark_by_file (some e) right d = sym (marks_alike b e d (few_entries b (model_right b (some e) right)) (shape_for b e) (shape_for b d))
+  mark_by_file (some e) right d = ap Ok (sym (marks_alike b e d (few_entries b (model_right b (some e) right)) (shape_for b e) (shape_for b d)))
 
 module _ (b e d : List ℕ) (former : verdict b e ≡ Accepted) where
   merge_by_verdict_by_file : merge_delivery_by_file (by_file (some b) (some e)) d ≡ merge_by_file (verdict b d) (by_file (some b) (some e)) b d
@@ -155,21 +154,21 @@ module _ (b e d : List ℕ) (former : verdict b e ≡ Accepted) where
 -- ---- its replies are those of today's
 
 delivery_alike : (m y : Option (List ℕ)) → Right m y → (d : List ℕ)
-    → delivery_reply (file_delivery_by_file (by_file m y) d).outcome (file_delivery_by_file (by_file m y) d).mark
-    ≡ delivery_reply (Filing.file_delivery (holding m y) d).outcome (Filing.file_delivery (holding m y) d).mark
+    → delivery_reply (file_delivery_by_file (by_file m y) d).receipt
+    ≡ delivery_reply (Filing.file_delivery (holding m y) d).receipt
 unfolding file_delivery_by_file Filing.file_delivery delivery_outcome
 delivery_alike none y right d = rw cleared_holds
 delivery_alike (some b) y right d = rw (delivery_by_file_lem b y right d, delivery_by_verdict b y right d) (go (verdict b d))
   where
     go : (o : Outcome)
-        → delivery_reply (delivery_by_file o (by_file (some b) y) b d).outcome (delivery_by_file o (by_file (some b) y) b d).mark
-        ≡ delivery_reply (delivery_by o (holding (some b) y) b d).outcome (delivery_by o (holding (some b) y) b d).mark
-    go Accepted = ap (delivery_reply Accepted) (mark_by_file b y right d)
-    go (Refused x i k) = refl
+        → delivery_reply (delivery_by_file o (by_file (some b) y) b d).receipt
+        ≡ delivery_reply (delivery_by o (holding (some b) y) b d).receipt
+    go (Ok u) = ap delivery_reply (mark_by_file b y right d)
+    go (Err why) = refl
 
 merge_alike : (m y : Option (List ℕ)) → Right m y → (d : List ℕ)
-    → delivery_reply (merge_delivery_by_file (by_file m y) d).outcome (merge_delivery_by_file (by_file m y) d).mark
-    ≡ delivery_reply (merge_delivery (holding m y) d).outcome (merge_delivery (holding m y) d).mark
+    → delivery_reply (merge_delivery_by_file (by_file m y) d).receipt
+    ≡ delivery_reply (merge_delivery (holding m y) d).receipt
 unfolding merge_delivery_by_file merge_delivery merge_outcome with_model
 merge_alike none y right d = rw cleared_holds
 merge_alike (some b) none right d = rw (model_held_lem b none right)
@@ -178,12 +177,12 @@ merge_alike (some b) (some e) right d = rw (merge_by_verdict_by_file b e d right
     go : (o : Outcome) → verdict b d ≡ o →
         let x = merge_by_file o (by_file (some b) (some e)) b d in
         let y = merge_by o (holding (some b) (some e)) b d in
-        delivery_reply x.outcome x.mark ≡ delivery_reply y.outcome y.mark
-    go Accepted is =
-        ap (λ x. delivery_reply x.outcome x.mark) (joined_by_file b e d right is)
-        ∙ ap (delivery_reply Accepted) (mark_by_file b (some e) right (merged b e d))
-        ∙ sym (ap (λ x. delivery_reply x.outcome x.mark) (joined_is b e d right is))
-    go (Refused x i k) is = refl
+        delivery_reply x.receipt ≡ delivery_reply y.receipt
+    go (Ok u) is =
+        ap (λ x. delivery_reply x.receipt) (joined_by_file b e d right is)
+        ∙ ap delivery_reply (mark_by_file b (some e) right (merged b e d))
+        ∙ sym (ap (λ x. delivery_reply x.receipt) (joined_is b e d right is))
+    go (Err why) is = refl
 
 upper_alike : (m y : Option (List ℕ)) → Right m y → (p z q : ℕ) → answer_reply (upper_by_file (by_file m y) p z q) ≡ answer_reply (upper_in (holding m y) p z q)
 unfolding upper_by_file upper_in with_model model_held numbers_by_file numbers_held
@@ -262,8 +261,8 @@ delivery_next (some b) y right d = rw (delivery_by_file_lem b y right d) (go (ve
     go : (o : Outcome) →
         let t = taken (by_verdict o (mark_of b y d)) in
         (delivery_by_file o (by_file (some b) y) b d).register ≡ by_file (some b) (cond t (some d) y)
-    go Accepted = rw (mark_taken b d y) (replaced_by_file b d y)
-    go (Refused x i k) = refl
+    go (Ok u) = rw (mark_taken b d y) (replaced_by_file b d y)
+    go (Err why) = refl
 
 merge_next : (m y : Option (List ℕ)) → Right m y → (d : List ℕ) →
     let t = taken (of_model m (λ b. of_delivery y (λ e. by_verdict (verdict b d) (mark_of b (some e) (merged b e d))))) in
@@ -276,10 +275,10 @@ merge_next (some b) (some e) right d = rw (merge_by_verdict_by_file b e d right)
     go : (o : Outcome) → verdict b d ≡ o →
         let t = taken (by_verdict o (mark_of b (some e) (merged b e d))) in
         (merge_by_file o (by_file (some b) (some e)) b d).register ≡ by_file (some b) (cond t (some (merged b e d)) (some e))
-    go Accepted is =
+    go (Ok u) is =
         rw (mark_taken b (merged b e d) (some e))
         (ap (λ x. x.register) (joined_by_file b e d right is) ∙ replaced_by_file b (merged b e d) (some e))
-    go (Refused x i k) is = refl
+    go (Err why) is = refl
 
 next_alike : (x : Pair) → Right x.model x.delivery → (c : Call)
     → after_by_file (by_file x.model x.delivery) c ≡ by_file (pair_after x c).model (pair_after x c).delivery

@@ -5,8 +5,6 @@ use mathlib.Core.Bool.{Bool, true, false, cond}
 use mathlib.Core.List.{List}
 use mathlib.Core.Option.{Option, none, some}
 use mathlib.Core.Path.{◌≡◌, refl, sym, ◌∙◌}
-use Rattle.outcome.specs.declared.Outcome.{Outcome}
-use Rattle.outcome.specs.declared.Outcome.TheVariants.{Accepted, Refused}
 use Rattle.verdict.specs.Verdict.{verdict}
 use Rattle.verdict.proofs.Accepted.{delivery_accepted}
 use Rattle.calls.specs.Calls.{Call, file_delivery, known, new}
@@ -16,6 +14,8 @@ use Rattle.history.specs.Mission.{KnownHeld, HeldKnown}
 use Rattle.history.proofs.Same.{itself_same, same_bytes}
 use Rattle.history.proofs.Pairs.{Right}
 use Rattle.history.proofs.Plain.{right_pair, held_right, as_plain_pair}
+use Rattle.outcome.specs.Outcomes.{Outcome, Accepted, Refused}
+use Rattle.std.specs.Prelude.{Err, Ok}
 
 -- Known and new are two words.
 pub known_if : (t : Bool) → cond t known new ≡ known → t ≡ true
@@ -35,9 +35,9 @@ known_by none y d e = let z : ◌≡◌ {A = ℕ} 0 1 = cc in absurd (omega arit
 known_by (some b) y d e = go (verdict b d) y e
   where
     go : (o : Outcome) (y : Option (List ℕ)) → by_verdict o (mark_of b y d) ≡ known → KnownBy (some b) y d
-    go (Refused x i k) y e = let z : ◌≡◌ {A = ℕ} 0 1 = cc in absurd (omega arith)
-    go Accepted none e = let z : ◌≡◌ {A = ℕ} 0 1 = cc in absurd (omega arith)
-    go Accepted (some former) e =
+    go (Err why) y e = let z : ◌≡◌ {A = ℕ} 0 1 = cc in absurd (omega arith)
+    go (Ok u) none e = let z : ◌≡◌ {A = ℕ} 0 1 = cc in absurd (omega arith)
+    go (Ok u) (some former) e =
         record { model = b; former = former; held_model = refl; held_delivery = refl; same = known_if (same_delivery b former d) e }
 
 pub known_held : (cs : List Call) → KnownHeld cs

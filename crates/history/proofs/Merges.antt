@@ -7,8 +7,6 @@ use mathlib.Core.List.{List}
 use mathlib.Core.Logic.{◌↔◌}
 use mathlib.Core.Option.{Option, none, some}
 use mathlib.Core.Path.{◌≡◌, refl, sym, ap, ◌∙◌}
-use Rattle.outcome.specs.declared.Outcome.{Outcome}
-use Rattle.outcome.specs.declared.Outcome.TheVariants.{Accepted, Refused}
 use Rattle.outcome.specs.Tests.{first}
 use Rattle.delivery.specs.Merged.{merged}
 use Rattle.verdict.specs.Verdict.{delivery_tests, verdict}
@@ -23,13 +21,15 @@ use Rattle.history.proofs.Pairs.{Right, model_held_right, mark_taken}
 use Rattle.history.proofs.Plain.{right_pair, held_right, as_plain_pair}
 use Rattle.history.proofs.Known.{known_if}
 use Rattle.history.proofs.Named.{named, names, verdict_after}
+use Rattle.outcome.specs.Outcomes.{Outcome, Accepted, Refused}
+use Rattle.std.specs.Prelude.{Err, Ok}
 
 -- ---- which are taken
 
 -- A reply by the verdict is taken where the verdict accepts.
 taken_by : (o : Outcome) (r : Reply) → taken r ≡ true → (taken (by_verdict o r) ≡ true) ↔ (o ≡ Accepted)
-taken_by Accepted r t = (λ e. refl, λ e. t)
-taken_by (Refused x i k) r t = (λ e. absurd (false≢true e), λ e. let z : ◌≡◌ {A = ℕ} 0 1 = cc in absurd (omega arith))
+taken_by (Ok u) r t = (λ e. refl, λ e. t)
+taken_by (Err why) r t = (λ e. absurd (false≢true e), λ e. let z : ◌≡◌ {A = ℕ} 0 1 = cc in absurd (omega arith))
 
 merge_by_lem : (m y : Option (List ℕ)) (d : List ℕ)
     → (taken (of_model m (λ b. of_delivery y (λ e. by_verdict (verdict b d) (mark_of b (some e) (merged b e d))))) ≡ true)

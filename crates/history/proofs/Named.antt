@@ -1,6 +1,7 @@
 -- Refusals after any list of calls: the number is one that document 01 lists for the call, and a file's refusal names the first of its tests
 -- that fails. By the plain pair's replies.
 use Prim.Native.Nat.{ℕ, zero, suc, ◌+◌, ◌≤◌, ◌<◌}
+use Rattle.std.specs.Prelude as Library
 use native.Mathlib.Omega.{arith}
 use mathlib.Core.Bool.{Bool, true, false, cond, false≢true, ◌&&◌}
 use mathlib.Core.List.{List, [], ◌∷◌}
@@ -12,8 +13,6 @@ use lib.IntN.{ℤ}
 use borrow.Author.Tests.{eqb-true, eqb-false}
 use Rattle.walks.specs.Sums.{In}
 use Rattle.outcome.specs.declared.Reason.{Reason}
-use Rattle.outcome.specs.declared.Outcome.{Outcome}
-use Rattle.outcome.specs.declared.Outcome.TheVariants.{Accepted, Refused}
 use Rattle.outcome.specs.Reasons.{number_of}
 use Rattle.outcome.specs.Tests.{Test, first}
 use Rattle.outcome.proofs.Tests.{first_after, first_failure, refused_exactly}
@@ -21,8 +20,6 @@ use Rattle.model.specs.Records.{states_of, symbols_of}
 use Rattle.wellformed.specs.Verdict.{model_tests, model_verdict}
 use Rattle.wellformed.proofs.Places.{model_number}
 use Rattle.delivery.specs.declared.shape.Shape.{Shape}
-use Rattle.delivery.specs.declared.shape.Shaped.{Shaped}
-use Rattle.delivery.specs.declared.shape.Shaped.TheVariants.{Of, Unknown}
 use Rattle.delivery.specs.Shapes.{has_lowers, has_means, shape_of}
 use Rattle.delivery.specs.Numbers.{uppers_of, lowers_of, means_of}
 use Rattle.delivery.specs.Merged.{merged}
@@ -41,6 +38,9 @@ use Rattle.history.specs.Run.{reply_to, history}
 use Rattle.history.specs.Mission.{listed, NumberListed, Names, ModelNamed, CounterNamed, DeliveryNamed}
 use Rattle.history.proofs.Pairs.{model_held_right, mark_taken}
 use Rattle.history.proofs.Plain.{right_pair, as_plain_pair}
+use Rattle.outcome.specs.declared.Refusal.{Refusal}
+use Rattle.outcome.specs.Outcomes.{Outcome, Accepted, Refused}
+use Rattle.std.specs.Prelude.{Some, None, Err, Ok}
 
 -- ---- numbers in a list
 
@@ -61,16 +61,25 @@ in_from (suc n) a x le lt = go (eqb x a) refl (λ l. in_from n (suc a) x l (omeg
 
 by_verdict_lem : (o : Outcome) (r : Reply) {n i : ℕ} {k : ℤ} → taken r ≡ true → by_verdict o r ≡ refused n i k
     → (x : Reason) × (o ≡ Refused x i k) × (number_of x ≡ n)
-by_verdict_lem Accepted r t e = absurd (false≢true (sym (ap taken e) ∙ t))
-by_verdict_lem (Refused x i k) r t e = (x, cc, cc)
+by_verdict_lem (Ok u) r t e = absurd (false≢true (sym (ap taken e) ∙ t))
+by_verdict_lem (Err why) r {n} {i} {k} t e =
+    let place : why.place ≡ i = cc in
+    let shortfall : why.shortfall ≡ k = cc in
+    (why.reason, rw (place, shortfall), cc)
 
 module _ (ts : List Test) (r : Reply) (stands : taken r ≡ true) {n i : ℕ} {k : ℤ} where
   pub named : by_verdict (first ts) r ≡ refused n i k → Names ts n i k
   named e =
       let (x, is, number) = by_verdict_lem (first ts) r stands e in
-      let (t, (found, same)) = first_failure ts x i k is in
-      let reason : t.reason ≡ x = cc in
-      record { test = t; failure = found; number_named = ap number_of reason ∙ number; place_named = cc; shortfall_named = cc }
+      let (t, (found, same)) = first_failure ts _ is in
+      let why : ◌≡◌ {A = Refusal} (record { reason = t.reason; place = t.place; shortfall = t.shortfall }) (record { reason = x; place = i; shortfall = k }) = cc in
+      record {
+        test = t;
+        failure = found;
+        number_named = ap (λ (w : Refusal). number_of w.reason) why ∙ number;
+        place_named = ap (λ (w : Refusal). w.place) why;
+        shortfall_named = ap (λ (w : Refusal). w.shortfall) why;
+      }
 
   pub names : Names ts n i k → by_verdict (first ts) r ≡ refused n i k
   names x = rw (refused_exactly ts x.test x.failure, x.number_named, x.place_named, x.shortfall_named)
@@ -122,9 +131,9 @@ module _ {n i : ℕ} {k : ℤ} where
   no_refusal : (v : ℕ) (ns : List ℕ) → value v ≡ refused n i k → In n ns
   no_refusal v ns e = let z : ◌≡◌ {A = ℕ} 0 1 = cc in absurd (omega arith)
 
-  of_block_lem : (has : Shape → Bool) (t : Shaped) (v : Shape → ℕ) → of_block has t (λ h. value (v h)) ≡ refused n i k → In n (43 ∷ [])
-  of_block_lem has (Of h) v e = of_test (has h) (value (v h)) 43 [] (no_refusal (v h) []) e
-  of_block_lem has Unknown v e = inl cc
+  of_block_lem : (has : Shape → Bool) (t : Library.Option Shape) (v : Shape → ℕ) → of_block has t (λ h. value (v h)) ≡ refused n i k → In n (43 ∷ [])
+  of_block_lem has (Some h) v e = of_test (has h) (value (v h)) 43 [] (no_refusal (v h) []) e
+  of_block_lem has None v e = inl cc
 
   of_file : (m : Option (List ℕ)) (b : List ℕ) → if_none m (by_verdict (model_verdict b) accepted) ≡ refused n i k → In n (listed (file_model b))
   of_file none b e =

@@ -7,8 +7,6 @@ use mathlib.Core.Option.{Option, none, some}
 use mathlib.Core.Path.{◌≡◌, refl, sym, ap, ◌∙◌}
 use lib.Dec.{ltb, leb}
 use lib.ListN.{length}
-use Rattle.outcome.specs.declared.Outcome.{Outcome}
-use Rattle.outcome.specs.declared.Outcome.TheVariants.{Accepted, Refused}
 use Rattle.walks.specs.Order.{entries_in}
 use Rattle.walks.proofs.Exactly.{lt_exactly, le_exactly, both}
 use Rattle.walks.proofs.Exits.{file_ordered, exit_ordered}
@@ -18,7 +16,6 @@ use Rattle.model.specs.Format.{most_bytes, most_entries}
 use Rattle.wellformed.specs.Verdict.{model_verdict}
 use Rattle.model.proofs.Accepted.{sized_fits}
 use Rattle.wellformed.proofs.Accepted.{model_accepted, sized_of}
-use Rattle.delivery.specs.declared.shape.Shaped.TheVariants.{Of}
 use Rattle.delivery.specs.Shapes.{has_lowers, has_means, shape_of}
 use Rattle.delivery.specs.Numbers.{uppers_of, lowers_of, means_of}
 use Rattle.model.specs.Clauses.{Sized}
@@ -57,6 +54,8 @@ use Rattle.shortruns.specs.Short.{few_steps}
 use Rattle.questions.specs.Questions.{short_chance}
 use Rattle.history.specs.Run.{after_call, reply_of, holding, register_of}
 use Rattle.history.proofs.Same.{delivery_same}
+use Rattle.outcome.specs.Outcomes.{Outcome, Accepted, Refused}
+use Rattle.std.specs.Prelude.{Some, None, Err, Ok}
 
 -- The reply to a question on a block that the held delivery may have, for the model b and the delivery d.
 abbrev pub lower_reply : List ℕ → List ℕ → ℕ → ℕ → ℕ → Reply
@@ -215,7 +214,7 @@ module _ (b d : List ℕ) (is : verdict b d ≡ Accepted) where
   model_is : model_verdict b ≡ Accepted
   model_is = model_right b (some d) is
 
-  shaped : shape_of (states_of b) (symbols_of b) d ≡ Of filed.shaped
+  shaped : shape_of (states_of b) (symbols_of b) d ≡ Some filed.shaped
   shaped = filed.delivery.shape
 
   upper_reply_lem : (p z q : ℕ) → answer_reply (upper_in (holding (some b) (some d)) p z q)
@@ -254,7 +253,7 @@ module _ (b d : List ℕ) (is : verdict b d ≡ Accepted) where
 -- ---- a delivery filed
 
 mark_reply_lem : (b d : List ℕ) (y : Option (List ℕ)) → Right (some b) y → verdict b d ≡ Accepted
-    → mark_reply (received (holding (some b) y) b (shape_for b d) d).mark ≡ mark_of b y d
+    → delivery_reply (received (holding (some b) y) b (shape_for b d) d).receipt ≡ mark_of b y d
 unfolding with_model mark_by
 mark_reply_lem b d none right is = refl
 mark_reply_lem b d (some e) right is = rw (← delivery_same b e d right is) (go (same_delivery b e d))
@@ -303,8 +302,8 @@ module _ {at : Option (List ℕ) → Option (List ℕ) → Register} (way : WayO
   model_filed none y right b = rw (way.empty y, cleared_holds) (go (model_verdict b))
     where
       go : (o : Outcome) → model_reply (model_by o Filing.cleared b).outcome ≡ by_verdict o accepted
-      go Accepted = refl
-      go (Refused x i k) = refl
+      go (Ok u) = refl
+      go (Err why) = refl
   model_filed (some a) y right b = rw (model_there way a y right)
 
   pub model_next : (m y : Option (List ℕ)) → Right m y → (b : List ℕ) →
@@ -314,8 +313,8 @@ module _ {at : Option (List ℕ) → Option (List ℕ) → Register} (way : WayO
   model_next none y right b = rw (way.empty y, cleared_holds) (go (model_verdict b))
     where
       go : (o : Outcome) → let t = taken (by_verdict o accepted) in (model_by o Filing.cleared b).register ≡ at (cond t (some b) none) (cond t none y)
-      go Accepted = sym (way.alone b)
-      go (Refused x i k) = sym (way.empty y)
+      go (Ok u) = sym (way.alone b)
+      go (Err why) = sym (way.empty y)
   model_next (some a) y right b = rw (model_there way a y right)
 
   pub counter_filed : (m y : Option (List ℕ)) → Right m y → (c : List ℕ)
@@ -324,8 +323,8 @@ module _ {at : Option (List ℕ) → Option (List ℕ) → Register} (way : WayO
   counter_filed none y right c = rw (way.empty y, cleared_holds) (go (counter_verdict c))
     where
       go : (o : Outcome) → model_reply (counter_by o Filing.cleared c).outcome ≡ by_verdict o accepted
-      go Accepted = refl
-      go (Refused x i k) = refl
+      go (Ok u) = refl
+      go (Err why) = refl
   counter_filed (some a) y right c = rw (model_there way a y right)
 
   pub counter_next : (m y : Option (List ℕ)) → Right m y → (c : List ℕ) →
@@ -337,26 +336,25 @@ module _ {at : Option (List ℕ) → Option (List ℕ) → Register} (way : WayO
       go : (o : Outcome) →
           let t = taken (by_verdict o accepted) in
           (counter_by o Filing.cleared c).register ≡ at (cond t (some (counter_model c)) none) (cond t none y)
-      go Accepted = sym (way.alone (counter_model c))
-      go (Refused x i k) = sym (way.empty y)
+      go (Ok u) = sym (way.alone (counter_model c))
+      go (Err why) = sym (way.empty y)
   counter_next (some a) y right c = rw (model_there way a y right)
 
 module _ (y : Option (List ℕ)) where
   delivery_filed : (m : Option (List ℕ)) → Right m y → (d : List ℕ)
-      → delivery_reply (Filing.file_delivery (holding m y) d).outcome (Filing.file_delivery (holding m y) d).mark
+      → delivery_reply (Filing.file_delivery (holding m y) d).receipt
       ≡ of_model m (λ b. by_verdict (verdict b d) (mark_of b y d))
   unfolding Filing.file_delivery delivery_outcome
   delivery_filed none right d = rw cleared_holds
   delivery_filed (some b) right d = rw (delivery_by_verdict b y right d) (go (verdict b d) refl)
     where
       go : (o : Outcome) → verdict b d ≡ o
-          → delivery_reply (delivery_by o (holding (some b) y) b d).outcome (delivery_by o (holding (some b) y) b d).mark
-          ≡ by_verdict o (mark_of b y d)
-      go Accepted e = mark_reply_lem b d y right e
-      go (Refused x i k) e = refl
+          → delivery_reply (delivery_by o (holding (some b) y) b d).receipt ≡ by_verdict o (mark_of b y d)
+      go (Ok u) e = mark_reply_lem b d y right e
+      go (Err why) e = refl
 
 merge_of_pair : (m y : Option (List ℕ)) → Right m y → (d : List ℕ)
-    → delivery_reply (merge_delivery (holding m y) d).outcome (merge_delivery (holding m y) d).mark
+    → delivery_reply (merge_delivery (holding m y) d).receipt
     ≡ of_model m (λ b. of_delivery y (λ e. by_verdict (verdict b d) (mark_of b (some e) (merged b e d))))
 unfolding merge_delivery merge_outcome with_model
 merge_of_pair none y right d = rw cleared_holds
@@ -365,11 +363,11 @@ merge_of_pair (some b) (some e) right d = rw (merge_by_verdict b e d right) (go 
   where
     go : (o : Outcome) → verdict b d ≡ o →
         let x = merge_by o (holding (some b) (some e)) b d in
-        delivery_reply x.outcome x.mark ≡ by_verdict o (mark_of b (some e) (merged b e d))
-    go Accepted is =
-        ap (λ x. delivery_reply x.outcome x.mark) (joined_is b e d right is)
+        delivery_reply x.receipt ≡ by_verdict o (mark_of b (some e) (merged b e d))
+    go (Ok u) is =
+        ap (λ x. delivery_reply x.receipt) (joined_is b e d right is)
         ∙ mark_reply_lem b (merged b e d) (some e) right (merged_accepted b e d right is)
-    go (Refused x i k) is = refl
+    go (Err why) is = refl
 
 upper_of_pair : (m y : Option (List ℕ)) → Right m y → (p z q : ℕ) → answer_reply (upper_in (holding m y) p z q)
     ≡ of_model m (λ b. of_delivery y (λ d. at_entry b p z q (value (uppers_of (states_of b) (symbols_of b) d p z q))))
@@ -446,8 +444,8 @@ module _ (y : Option (List ℕ)) where
   model_right_after none right b = go (model_verdict b) refl
     where
       go : (o : Outcome) → model_verdict b ≡ o → let t = taken (by_verdict o accepted) in Right (cond t (some b) none) (cond t none y)
-      go Accepted e = e
-      go (Refused x i k) e = right
+      go (Ok u) e = e
+      go (Err why) e = right
   model_right_after (some a) right b = right
 
   -- The model that an accepted counter file makes is accepted.
@@ -457,8 +455,8 @@ module _ (y : Option (List ℕ)) where
   counter_right_after none right c = go (counter_verdict c) refl
     where
       go : (o : Outcome) → counter_verdict c ≡ o → let t = taken (by_verdict o accepted) in Right (cond t (some (counter_model c)) none) (cond t none y)
-      go Accepted e = made_accepted c e
-      go (Refused x i k) e = right
+      go (Ok u) e = made_accepted c e
+      go (Err why) e = right
   counter_right_after (some a) right c = right
 
   delivery_after_lem : (m : Option (List ℕ)) → Right m y → (d : List ℕ) →
@@ -471,8 +469,8 @@ module _ (y : Option (List ℕ)) where
       go : (o : Outcome) → verdict b d ≡ o →
           let t = taken (by_verdict o (mark_of b y d)) in
           ((delivery_by o (holding (some b) y) b d).register ≡ holding (some b) (cond t (some d) y)) × Right (some b) (cond t (some d) y)
-      go Accepted e = rw (mark_taken b d y) (delivery_held b d y, e)
-      go (Refused x i k) e = (refl, right)
+      go (Ok u) e = rw (mark_taken b d y) (delivery_held b d y, e)
+      go (Err why) e = (refl, right)
 
 -- The merged file of two accepted deliveries is accepted.
 merge_after_lem : (m y : Option (List ℕ)) → Right m y → (d : List ℕ) →
@@ -487,10 +485,10 @@ merge_after_lem (some b) (some e) right d = rw (merge_by_verdict b e d right) (g
         let t = taken (by_verdict o (mark_of b (some e) (merged b e d))) in
         ((merge_by o (holding (some b) (some e)) b d).register ≡ holding (some b) (cond t (some (merged b e d)) (some e)))
         × Right (some b) (cond t (some (merged b e d)) (some e))
-    go Accepted is =
+    go (Ok u) is =
         rw (mark_taken b (merged b e d) (some e))
         (ap (λ x. x.register) (joined_is b e d right is) ∙ delivery_held b (merged b e d) (some e), merged_accepted b e d right is)
-    go (Refused x i k) is = (refl, right)
+    go (Err why) is = (refl, right)
 
 pub next_of_pair : (x : Pair) → Right x.model x.delivery → (c : Call) → Next x c
 unfolding after_call plain_reply register_of

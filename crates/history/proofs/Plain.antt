@@ -7,8 +7,6 @@ use mathlib.Core.List.{List, [], ◌∷◌}
 use mathlib.Core.Logic.{◌↔◌}
 use mathlib.Core.Option.{Option, none, some}
 use mathlib.Core.Path.{◌≡◌, refl, sym, ap, ◌∙◌}
-use Rattle.outcome.specs.declared.Outcome.{Outcome}
-use Rattle.outcome.specs.declared.Outcome.TheVariants.{Accepted, Refused}
 use Rattle.wellformed.specs.Verdict.{model_verdict}
 use Rattle.wellformed.proofs.Accepted.{model_accepted}
 use Rattle.verdict.specs.Verdict.{verdict}
@@ -21,6 +19,8 @@ use Rattle.history.specs.Plain.{last_model, last_delivery, pair_of, of_model, if
 use Rattle.history.specs.Run.{after_call, reply_of, register_after, history, register_of}
 use Rattle.history.specs.Mission.{HoldsPair, AsPlainPair, ModelTaken, CounterTaken, CounterHeld, DeliveryTaken}
 use Rattle.history.proofs.Pairs.{Right, mark_taken, reply_of_pair, next_of_pair}
+use Rattle.outcome.specs.Outcomes.{Outcome, Accepted, Refused}
+use Rattle.std.specs.Prelude.{Err, Ok}
 
 -- The register holds the pair, and its files are accepted.
 record Held (cs : List Call) : Type 0 where
@@ -57,8 +57,8 @@ as_plain_pair cs = replied cs (held_after cs)
 -- ---- which files are taken
 
 model_by_lem : (m : Option (List ℕ)) (o : Outcome) → (if_none m (by_verdict o accepted) ≡ accepted) ↔ ((m ≡ none) × (o ≡ Accepted))
-model_by_lem none Accepted = (λ e. (refl, refl), λ h. refl)
-model_by_lem none (Refused x i k) = (
+model_by_lem none (Ok u) = (λ e. (refl, refl), λ h. refl)
+model_by_lem none (Err why) = (
   λ e. let z : ◌≡◌ {A = ℕ} 0 1 = cc in absurd (omega arith),
   λ (free, is). let z : ◌≡◌ {A = ℕ} 0 1 = cc in absurd (omega arith),
 )
@@ -100,8 +100,8 @@ delivery_by_lem (some b) y d = (
 )
   where
     go : (o : Outcome) → taken (by_verdict o (mark_of b y d)) ≡ true → o ≡ Accepted
-    go Accepted e = refl
-    go (Refused x i k) e = absurd (false≢true e)
+    go (Ok u) e = refl
+    go (Err why) e = absurd (false≢true e)
 
 pub delivery_taken : (cs : List Call) → DeliveryTaken cs
 unfolding plain_reply

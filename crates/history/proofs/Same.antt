@@ -8,7 +8,6 @@ use mathlib.Core.Logic.Iff
 use mathlib.Core.Logic.{◌↔◌}
 use mathlib.Core.Path.{◌≡◌, refl, sym, ap, subst, ◌∙◌}
 use lib.ListN.{get_or}
-use Rattle.outcome.specs.declared.Outcome.TheVariants.{Accepted}
 use Rattle.walks.specs.Sums.{all_to}
 use Rattle.walks.specs.Order.{entries_in, rows_in, row_at, entry_at, AtRows, AtEntries}
 use Rattle.walks.proofs.Exactly.{eq_exactly, both, same_test}
@@ -24,8 +23,6 @@ use Rattle.wellformed.proofs.Accepted.{model_accepted, sized_of}
 use Rattle.delivery.specs.declared.shape.Block.{Block}
 use Rattle.delivery.specs.declared.shape.Shape.{Shape}
 use Rattle.delivery.specs.declared.shape.Shape.TheVariants.{U, UL, UR, ULR}
-use Rattle.delivery.specs.declared.shape.Shaped.{Shaped}
-use Rattle.delivery.specs.declared.shape.Shaped.TheVariants.{Of, Unknown}
 use Rattle.delivery.specs.Format.{record_bytes}
 use Rattle.delivery.specs.Records.{value_at}
 use Rattle.delivery.specs.Shapes.{has_lowers, has_means, same_shape, means_from, records_in, shape_of}
@@ -47,6 +44,8 @@ use Rattle.filing.specs.Known.{same_to, same_numbers}
 use Rattle.filing.proofs.Known.{same_exactly}
 use Rattle.register.specs.Filing.{shape_for}
 use Rattle.history.specs.Plain.{same_record, same_as, same_delivery}
+use Rattle.outcome.specs.Outcomes.{Accepted}
+use Rattle.std.specs.Prelude.{Option, Some, None}
 
 -- ---- records
 
@@ -195,17 +194,17 @@ bytes_same : (b e d : List ℕ) → Bytes e → Bytes d → same_delivery b e d 
 unfolding same_delivery
 bytes_same b e d bytes bytes' = go _ refl _ refl
   where
-    go : (x : Shaped) → shape_of (states_of b) (symbols_of b) e ≡ x → (y : Shaped) → shape_of (states_of b) (symbols_of b) d ≡ y
+    go : (x : Option Shape) → shape_of (states_of b) (symbols_of b) e ≡ x → (y : Option Shape) → shape_of (states_of b) (symbols_of b) d ≡ y
         → same_as (states_of b) (symbols_of b) x y e d ≡ true → e ≡ d
-    go (Of h) here (Of k) there same =
+    go (Some h) here (Some k) there same =
         let (shape, records) = (both _ _ (same_shape_lem h k) (all_exactly (same_record e d) _)).0 same in
         told_by_records (records_in (states_of b) (symbols_of b) h) e d bytes bytes' (shape_long _ _ e h here)
         (shape_long _ _ d k there ∙ ap (λ x. record_bytes * records_in (states_of b) (symbols_of b) x) (sym shape))
         (λ i lt. (record_same e d i).0 (records i lt))
-    go (Of h) here Unknown there same = absurd (false≢true same)
-    go Unknown here y there same = absurd (false≢true same)
+    go (Some h) here None there same = absurd (false≢true same)
+    go None here y there same = absurd (false≢true same)
 
-pub itself_same : (b d : List ℕ) {h : Shape} → shape_of (states_of b) (symbols_of b) d ≡ Of h → same_delivery b d d ≡ true
+pub itself_same : (b d : List ℕ) {h : Shape} → shape_of (states_of b) (symbols_of b) d ≡ Some h → same_delivery b d d ≡ true
 unfolding same_delivery
 itself_same b d {h} of =
     rw of

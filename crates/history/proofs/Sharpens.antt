@@ -10,7 +10,6 @@ use mathlib.Core.Option.{some}
 use mathlib.Core.Path.{◌≡◌, refl, sym, subst, ◌∙◌}
 use Rattle.model.specs.Records.{states_of, symbols_of}
 use Rattle.delivery.specs.declared.shape.Shape.{Shape}
-use Rattle.delivery.specs.declared.shape.Shaped.TheVariants.{Of}
 use Rattle.delivery.specs.Shapes.{has_lowers, has_means, shape_of}
 use Rattle.delivery.specs.Numbers.{uppers_of, lowers_of, means_of}
 use Rattle.delivery.specs.Merged.{merged}
@@ -28,6 +27,7 @@ use Rattle.history.proofs.Pairs.{lower_reply, mean_reply}
 use Rattle.history.proofs.Plain.{as_plain_pair}
 use Rattle.history.proofs.Merges.{second_accepted}
 use Rattle.history.proofs.Shown.{Files, files_asked, entry_asked, row_asked, block_asked}
+use Rattle.std.specs.Prelude.{Some}
 
 -- Every delivery is as sharp as itself.
 as_sharp : (s g : ℕ) (h : Shape) (d : List ℕ) → Sharper s g h d h d
@@ -40,7 +40,7 @@ as_sharp s g h d = record {
 }
 
 -- Shapes are those of the files.
-sharper_as : {s g : ℕ} {c e : List ℕ} {h j h' j' : Shape} → Sharper s g j c h e → Of j ≡ Of j' → Of h ≡ Of h' → Sharper s g j' c h' e
+sharper_as : {s g : ℕ} {c e : List ℕ} {h j h' j' : Shape} → Sharper s g j c h e → Some j ≡ Some j' → Some h ≡ Some h' → Sharper s g j' c h' e
 sharper_as {s} {g} {c} {e} {h} {j} {h'} {j'} sharp shape former =
     let a : j ≡ j' = cc in
     let b : h ≡ h' = cc in
@@ -75,7 +75,7 @@ module _ (cs : List Call) (b e c d : List ℕ) (before : Files cs b e) (after : 
       go false t is = let same : some e ≡ some c = sym before.delivery ∙ is in inl cc
 
   -- The delivery after it is as sharp as the one before.
-  sharper_after : (j h : Shape) → shape_of (states_of b) (symbols_of b) c ≡ Of j → shape_of (states_of b) (symbols_of b) e ≡ Of h
+  sharper_after : (j h : Shape) → shape_of (states_of b) (symbols_of b) c ≡ Some j → shape_of (states_of b) (symbols_of b) e ≡ Some h
       → Sharper (states_of b) (symbols_of b) j c h e
   sharper_after j h shape former = go after_is
     where

@@ -1,6 +1,7 @@
 -- Mission point 3 for what the questions answer after any list of calls: a number that is answered is one of files that are held and
 -- accepted, and is true of the runs of the held model.
 use Prim.Native.Nat.{ℕ, ◌+◌, ◌*◌, ◌^◌, ◌≤◌, ◌<◌}
+use Rattle.std.specs.Prelude as Library
 use native.Mathlib.Omega.{arith}
 use mathlib.Core.Bool.{Bool, true, false, cond, ◌&&◌}
 use mathlib.Core.List.{List, flat_map}
@@ -8,7 +9,6 @@ use mathlib.Core.Option.{Option, none, some}
 use mathlib.Core.Path.{◌≡◌, refl, sym, ap, subst, ◌∙◌}
 use lib.Dec.{ltb, leb}
 use borrow.Author.Tests.{lt-ltb}
-use Rattle.outcome.specs.declared.Outcome.TheVariants.{Accepted}
 use Rattle.walks.proofs.Exactly.{lt_exactly, le_exactly, both}
 use Rattle.walks.specs.Sums.{sum, sum_to}
 use Rattle.walks.specs.Order.{AtRows}
@@ -25,8 +25,6 @@ use Rattle.model.specs.Rules.{rules_of}
 use Rattle.model.specs.W.{w_file}
 use Rattle.wellformed.specs.Verdict.{model_verdict}
 use Rattle.delivery.specs.declared.shape.Shape.{Shape}
-use Rattle.delivery.specs.declared.shape.Shaped.{Shaped}
-use Rattle.delivery.specs.declared.shape.Shaped.TheVariants.{Of, Unknown}
 use Rattle.delivery.specs.Shapes.{has_lowers, has_means, shape_of}
 use Rattle.delivery.specs.Numbers.{uppers_of, lowers_of, means_of}
 use Rattle.verdict.specs.Marks.{live_mark}
@@ -43,6 +41,8 @@ use Rattle.history.specs.Run.{reply_to, history}
 use Rattle.history.specs.Mission.{Holds, UpperShown, LowerHeld, LowerShown, MeanShown, TailShown, LiveShown, ShortShown, ShortUnderUpper}
 use Rattle.history.proofs.Pairs.{lower_reply, mean_reply, Right, model_held_right}
 use Rattle.history.proofs.Plain.{right_pair, as_plain_pair}
+use Rattle.outcome.specs.Outcomes.{Accepted}
+use Rattle.std.specs.Prelude.{Some, None}
 
 -- ---- what a number that is answered says of the pair
 
@@ -63,10 +63,10 @@ test_passed : (t : Bool) (r : Reply) (k : ℕ) {n : ℕ} → cond t r (refusal k
 test_passed true r k e = (refl, e)
 test_passed false r k e = absurd (no_number e)
 
-pub block_asked : (has : Shape → Bool) (t : Shaped) (h : Shape → Reply) {n : ℕ} → of_block has t h ≡ value n
-    → (k : Shape) × (t ≡ Of k) × (has k ≡ true) × (h k ≡ value n)
-block_asked has (Of k) h e = let (stands, same) = test_passed (has k) (h k) 43 e in (k, refl, stands, same)
-block_asked has Unknown h e = absurd (no_number e)
+pub block_asked : (has : Shape → Bool) (t : Library.Option Shape) (h : Shape → Reply) {n : ℕ} → of_block has t h ≡ value n
+    → (k : Shape) × (t ≡ Some k) × (has k ≡ true) × (h k ≡ value n)
+block_asked has (Some k) h e = let (stands, same) = test_passed (has k) (h k) 43 e in (k, refl, stands, same)
+block_asked has None h e = absurd (no_number e)
 
 pub entry_asked : (s g p z q : ℕ) (r : Reply) {n : ℕ} → cond ((ltb p s && ltb z g) && ltb q s) r (refusal 44) ≡ value n
     → (p < s) × (z < g) × (q < s) × (r ≡ value n)
@@ -114,7 +114,7 @@ module _ {cs : List Call} {b d : List ℕ} (files : Files cs b d) where
       as_plain_pair cs (upper p z q)
       ∙ rw (files.model, files.delivery, lt-ltb p (states_of b) hp, lt-ltb z (symbols_of b) hz, lt-ltb q (states_of b) hq)
 
-  margin_replied : {h : Shape} → shape_of (states_of b) (symbols_of b) d ≡ Of h → has_lowers h ≡ true → reply_to cs margin ≡ value (margin_of b d)
+  margin_replied : {h : Shape} → shape_of (states_of b) (symbols_of b) d ≡ Some h → has_lowers h ≡ true → reply_to cs margin ≡ value (margin_of b d)
   unfolding plain_reply
   margin_replied shape has = as_plain_pair cs margin ∙ rw (files.model, files.delivery, shape, has)
 

@@ -1,12 +1,11 @@
 -- What request A.6 says of a register: where the numbers that it shows are held, today and before the request, with the formulas written out, and that every answer
 -- equals that under the old order. Theorems of the same names prove it (`history/proofs/ByExit.antt`, `history/proofs/FileOrder.antt`).
-use Rattle.std.specs.Prelude.{ℕ, ◌+◌, ◌*◌, ◌≤◌, true, List, [], ◌∷◌, ◌≡◌, get_or}
+use Rattle.std.specs.Prelude.{ℕ, ◌+◌, ◌*◌, ◌≤◌, true, List, [], ◌∷◌, ◌≡◌, get_or, Some}
 use Rattle.walks.specs.Order.{entries_in, AtEntries}
 use Rattle.ppda.specs.Equations.{Vector}
 use Rattle.model.specs.Format.{most_entries}
 use Rattle.model.specs.Records.{states_of, symbols_of}
 use Rattle.delivery.specs.declared.shape.Shape.{Shape}
-use Rattle.delivery.specs.declared.shape.Shaped.TheVariants.{Of}
 use Rattle.delivery.specs.Shapes.{has_lowers, shape_of}
 use Rattle.delivery.specs.Numbers.{uppers_of, lowers_of}
 use Rattle.held.specs.Held.{listed, listed_by_exit}
@@ -34,7 +33,7 @@ pub record HeldByExit (r : Register) : Type 0 where
 pub record DeliveryByExit (cs : List Call) (b d : List ℕ) : Type 0 where
   pub uppers : AtEntries (states_of b) (symbols_of b) (λ p z q.
       get_or (register_after cs).numbers.uppers ((q * states_of b + p) * symbols_of b + z) 0 ≡ uppers_of (states_of b) (symbols_of b) d p z q)
-  pub lowers : (h : Shape) → shape_of (states_of b) (symbols_of b) d ≡ Of h → has_lowers h ≡ true → AtEntries (states_of b) (symbols_of b) (λ p z q.
+  pub lowers : (h : Shape) → shape_of (states_of b) (symbols_of b) d ≡ Some h → has_lowers h ≡ true → AtEntries (states_of b) (symbols_of b) (λ p z q.
       get_or (register_after cs).numbers.lowers ((q * states_of b + p) * symbols_of b + z) 0 ≡ lowers_of (states_of b) (symbols_of b) d p z q)
 
 abbrev pub DeliveriesByExit : List Call → Type 0

@@ -2,9 +2,7 @@
 -- bodies of that time under names that end in ByFile: of `numbers_held`, `margin_in` and `numbers_merged`, of `delivery_by`, `file_delivery`, `merge_by`, `merge_delivery`,
 -- `upper_in` and `lower_in`, in which what they cite is written out, of `after_call`, `reply_of`, `register_after` and `replies`. No code runs it; the page `ByExit` says that
 -- every answer equals that under this order.
-use Rattle.std.specs.Prelude.{ℕ, true, cond, ◌&&◌, List, [], ◌∷◌}
-use Rattle.outcome.specs.declared.Outcome.{Outcome}
-use Rattle.outcome.specs.declared.Outcome.TheVariants.{Accepted, Refused}
+use Rattle.std.specs.Prelude.{ℕ, true, cond, ◌&&◌, List, [], ◌∷◌, Err, Ok, min, max}
 use Rattle.walks.specs.Order.{entries_in, rows_in}
 use Rattle.ppda.specs.Equations.{entries}
 use Rattle.ppda.specs.Margin.{margin}
@@ -18,10 +16,9 @@ use Rattle.certificate.specs.Margin.{margin_of}
 use Rattle.held.specs.declared.Numbers.{Numbers}
 use Rattle.held.specs.Held.{listed, listed_rows, if_standing, holds_model, is_held, lowers_stand, shape_held}
 use Rattle.held.specs.Places.{has_entry, entry_value}
-use Rattle.merging.specs.declared.Keep.TheVariants.{Smaller, Larger}
 use Rattle.merging.specs.Numbers.{kept_to, means_to}
 use Rattle.filing.specs.Outcomes.{file_of, delivery_outcome, merge_outcome}
-use Rattle.calls.specs.declared.Answer.{Answer}
+use Rattle.calls.specs.Answers.{Answer}
 use Rattle.calls.specs.Answers.{answered, model_reply, delivery_reply, answer_reply}
 use Rattle.calls.specs.Calls as Calls
 use Rattle.calls.specs.Calls.{Call, Reply}
@@ -30,6 +27,7 @@ use Rattle.register.specs.declared.Received.{Received}
 use Rattle.register.specs.Filing.{cleared, turned_away, shape_for, holding_numbers, file_model}
 use Rattle.register.specs.Questions.{mean_in, margin_in, live_in, within_in}
 use Rattle.counter.specs.Filing.{file_counter}
+use Rattle.outcome.specs.Outcomes.{Outcome, Accepted, Refused}
 
 -- ---- what was held of a delivery
 
@@ -51,29 +49,29 @@ margin_by_file b u = margin (rules_of b) (states_of b) (symbols_of b) (entries (
 unfoldable pub merged_by_file : List ℕ → Shape → Numbers → Shape → Numbers → Numbers
 merged_by_file b h former k second =
     record {
-      uppers = kept_to Smaller (entries_in (states_of b) (symbols_of b)) former.uppers second.uppers;
-      lowers = if_standing (has_lowers h && has_lowers k) (kept_to Larger (entries_in (states_of b) (symbols_of b)) former.lowers second.lowers);
+      uppers = kept_to min (entries_in (states_of b) (symbols_of b)) former.uppers second.uppers;
+      lowers = if_standing (has_lowers h && has_lowers k) (kept_to max (entries_in (states_of b) (symbols_of b)) former.lowers second.lowers);
       means = means_to (rows_in (states_of b) (symbols_of b)) (has_means h) (has_means k) former.means second.means;
       margin = cond (has_lowers h && has_lowers k)
-          (margin_by_file b (kept_to Smaller (entries_in (states_of b) (symbols_of b)) former.uppers second.uppers)) 0;
+          (margin_by_file b (kept_to min (entries_in (states_of b) (symbols_of b)) former.uppers second.uppers)) 0;
     }
 
 -- ---- the calls that put numbers into these lists or read them there
 
 -- Filing the delivery d for the held model b, by the outcome.
 abbrev pub delivery_by_file : Outcome → Register → List ℕ → List ℕ → Received
-delivery_by_file Accepted r b d = holding_numbers r b (shape_for b d) (numbers_by_file b (shape_for b d) d)
-delivery_by_file (Refused x i k) r b d = turned_away r (Refused x i k)
+delivery_by_file (Ok u) r b d = holding_numbers r b (shape_for b d) (numbers_by_file b (shape_for b d) d)
+delivery_by_file (Err why) r b d = turned_away r (Err why)
 
 unfoldable pub file_delivery_by_file : Register → List ℕ → Received
 file_delivery_by_file r d = delivery_by_file (delivery_outcome r.model d) r (file_of r.model) d
 
 -- Merging with the delivery d for the held model b, by the outcome.
 abbrev pub merge_by_file : Outcome → Register → List ℕ → List ℕ → Received
-merge_by_file Accepted r b d =
+merge_by_file (Ok u) r b d =
     holding_numbers r b (merged_shape (shape_held r.delivery) (shape_for b d))
     (merged_by_file b (shape_held r.delivery) r.numbers (shape_for b d) (numbers_by_file b (shape_for b d) d))
-merge_by_file (Refused x i k) r b d = turned_away r (Refused x i k)
+merge_by_file (Err why) r b d = turned_away r (Err why)
 
 unfoldable pub merge_delivery_by_file : Register → List ℕ → Received
 merge_delivery_by_file r d = merge_by_file (merge_outcome r.model r.delivery d) r (file_of r.model) d
@@ -109,8 +107,8 @@ unfoldable pub reply_by_file : Register → Call → Reply
 reply_by_file r Calls.clear = Calls.cleared
 reply_by_file r (Calls.file_model b) = model_reply (file_model r b).outcome
 reply_by_file r (Calls.file_counter c) = model_reply (file_counter r c).outcome
-reply_by_file r (Calls.file_delivery d) = delivery_reply (file_delivery_by_file r d).outcome (file_delivery_by_file r d).mark
-reply_by_file r (Calls.merge d) = delivery_reply (merge_delivery_by_file r d).outcome (merge_delivery_by_file r d).mark
+reply_by_file r (Calls.file_delivery d) = delivery_reply (file_delivery_by_file r d).receipt
+reply_by_file r (Calls.merge d) = delivery_reply (merge_delivery_by_file r d).receipt
 reply_by_file r (Calls.upper p z q) = answer_reply (upper_by_file r p z q)
 reply_by_file r (Calls.lower p z q) = answer_reply (lower_by_file r p z q)
 reply_by_file r (Calls.mean_steps p z) = answer_reply (mean_in r p z)

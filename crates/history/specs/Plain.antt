@@ -1,9 +1,8 @@
 -- The plain pair of document 01: "the last accepted model since the last clearing, and the last delivery accepted for it", and what such a
 -- pair of files replies to a call.
-use Rattle.std.specs.Prelude.{ℕ, Bool, false, cond, ◌&&◌, List, [], ◌∷◌, eqb, ltb, leb}
+use Rattle.std.specs.Prelude.{ℕ, Bool, false, cond, ◌&&◌, List, [], ◌∷◌, eqb, ltb, leb, Some, None, Err, Ok}
+use Rattle.std.specs.Prelude as Library
 use Rattle.std.proofs.Math.Option.{Option, none, some}
-use Rattle.outcome.specs.declared.Outcome.{Outcome}
-use Rattle.outcome.specs.declared.Outcome.TheVariants.{Accepted, Refused}
 use Rattle.outcome.specs.Reasons.{number_of}
 use Rattle.walks.specs.Sums.{all_to}
 use Rattle.ppda.specs.Chances.{chance}
@@ -11,8 +10,6 @@ use Rattle.model.specs.Records.{states_of, symbols_of}
 use Rattle.model.specs.Rules.{rules_of}
 use Rattle.wellformed.specs.Verdict.{model_verdict}
 use Rattle.delivery.specs.declared.shape.Shape.{Shape}
-use Rattle.delivery.specs.declared.shape.Shaped.{Shaped}
-use Rattle.delivery.specs.declared.shape.Shaped.TheVariants.{Of, Unknown}
 use Rattle.delivery.specs.Records.{kind_at, state_at, symbol_at, exit_at, value_at}
 use Rattle.delivery.specs.Shapes.{has_lowers, has_means, same_shape, records_in, shape_of}
 use Rattle.delivery.specs.Numbers.{uppers_of, lowers_of, means_of}
@@ -23,6 +20,7 @@ use Rattle.certificate.specs.Margin.{margin_of}
 use Rattle.counter.specs.Verdict.{counter_verdict}
 use Rattle.counter.specs.Made.{counter_model}
 use Rattle.calls.specs.Calls.{Call, clear, file_model, file_counter, file_delivery, merge, upper, lower, mean_steps, margin, live, within, Reply, cleared, accepted, known, new, value, refused, refusal, taken}
+use Rattle.outcome.specs.Outcomes.{Outcome, Accepted, Refused}
 
 -- ---- which files are held
 
@@ -107,9 +105,9 @@ abbrev pub at_entry : List ℕ → ℕ → ℕ → ℕ → Reply → Reply
 at_entry b p z q r = cond ((ltb p (states_of b) && ltb z (symbols_of b)) && ltb q (states_of b)) r (refusal 44)
 
 -- 43: the held delivery's shape does not have the block.
-abbrev pub of_block : (Shape → Bool) → Shaped → (Shape → Reply) → Reply
-of_block has (Of h) k = cond (has h) (k h) (refusal 43)
-of_block has Unknown k = refusal 43
+abbrev pub of_block : (Shape → Bool) → Library.Option Shape → (Shape → Reply) → Reply
+of_block has (Some h) k = cond (has h) (k h) (refusal 43)
+of_block has None k = refusal 43
 
 -- 45: n is above 3 (request A.1).
 abbrev pub to_three : ℕ → Reply → Reply
@@ -117,8 +115,8 @@ to_three n r = cond (leb n 3) r (refusal 45)
 
 -- The reply to a file by its verdict.
 abbrev pub by_verdict : Outcome → Reply → Reply
-by_verdict Accepted r = r
-by_verdict (Refused x i k) r = refused (number_of x) i k
+by_verdict (Ok u) r = r
+by_verdict (Err why) r = refused (number_of why.reason) why.place why.shortfall
 
 -- Record i is the same in two deliveries: kind, p, Z, q and value.
 abbrev pub same_record : List ℕ → List ℕ → ℕ → Bool
@@ -128,10 +126,10 @@ same_record d e i =
     && (eqb (symbol_at d i) (symbol_at e i) && (eqb (exit_at d i) (exit_at e i) && eqb (value_at d i) (value_at e i))))
 
 -- Two deliveries by their shapes, for a model with s states and g symbols: the shape is the same, and every record.
-abbrev pub same_as : ℕ → ℕ → Shaped → Shaped → List ℕ → List ℕ → Bool
-same_as s g (Of h) (Of k) d e = same_shape h k && all_to (same_record d e) (records_in s g h)
-same_as s g (Of h) Unknown d e = false
-same_as s g Unknown k d e = false
+abbrev pub same_as : ℕ → ℕ → Library.Option Shape → Library.Option Shape → List ℕ → List ℕ → Bool
+same_as s g (Some h) (Some k) d e = same_shape h k && all_to (same_record d e) (records_in s g h)
+same_as s g (Some h) None d e = false
+same_as s g None k d e = false
 
 -- Two deliveries for the model b are the same.
 unfoldable pub same_delivery : List ℕ → List ℕ → List ℕ → Bool

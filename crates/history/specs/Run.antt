@@ -28,8 +28,8 @@ unfoldable pub reply_of : Register → Call → Reply
 reply_of r clear = cleared
 reply_of r (file_model b) = model_reply (Filing.file_model r b).outcome
 reply_of r (file_counter c) = model_reply (Counter.file_counter r c).outcome
-reply_of r (file_delivery d) = delivery_reply (Filing.file_delivery r d).outcome (Filing.file_delivery r d).mark
-reply_of r (merge d) = delivery_reply (merge_delivery r d).outcome (merge_delivery r d).mark
+reply_of r (file_delivery d) = delivery_reply (Filing.file_delivery r d).receipt
+reply_of r (merge d) = delivery_reply (merge_delivery r d).receipt
 reply_of r (upper p z q) = answer_reply (upper_in r p z q)
 reply_of r (lower p z q) = answer_reply (lower_in r p z q)
 reply_of r (mean_steps p z) = answer_reply (mean_in r p z)

@@ -1,2 +1,2 @@
--- The laws behind this crate's code: the tests over plain values.
+-- The laws behind this crate's code: tests row by row.
 pub mod Tests

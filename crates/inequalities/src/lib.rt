@@ -4,4 +4,5 @@
 
 pub mod marks; // marks.rt: the tests 23 and 25, number by number
 pub mod means; // means.rt: the test 27
+mod missed; // missed.rt: the outcome of an inequality that may be missed
 pub mod sides; // sides.rt: the tests 24 and 26, which need f

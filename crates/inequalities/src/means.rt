@@ -9,30 +9,26 @@ ghost use Rattle.rows.specs.Clauses.{Indexed};
 ghost use Rattle.inequalities.specs.Inequalities.{mean_test};
 ghost use Rattle.inequalities.specs.Clauses.{mean_block};
 
+use super::missed::unless;
 use delivery::format::SUM_UNIT;
 use delivery::record::value_at;
 use equations::steps::mean_side;
 use model::sizes::Sizes;
-use outcome::{Outcome, Reason, difference};
+use outcome::{Outcome, Reason};
 use rows::STARTS;
 
 // r against the right side y: a missed inequality has the shortfall r − y.
+#[tactic(auto, unfolding(crate::specs::Inequalities::mean_test, outcome::specs::Tests::first))]
 fn check_mean(r: u64, y: u64, place: usize) -> Outcome
     requires { (r ≤ most_mean) × (y < 2 ^ 63) }
     ensures { result ≡ first (mean_test r y place ∷ []) }
 {
     let have = r * SUM_UNIT;
-    if have < y {
-        return Outcome::Refused {
-            reason: Reason::MeanTooSmall,
-            place,
-            shortfall: difference(have, y),
-        };
-    }
-    Outcome::Accepted
+    unless(have < y, Reason::MeanTooSmall, place, have, y)
 }
 
 // The mean steps of all rows. Their block starts at record `from`.
+#[tactic(auto, using(crate::proofs::Tests::rows_in_turn))]
 pub fn check(
     model: &[u8],
     starts: &[u16; STARTS],
@@ -45,15 +41,9 @@ pub fn check(
     requires inside { from ≤ most_records }
     ensures { result ≡ first (mean_block model.now n uppers.now means.now from) }
 {
-    let rows = n.rows();
-    let mut k = 0;
-    while k < rows {
+    for k in 0..n.rows() {
         let y = mean_side(model, starts, uppers, means, n, k);
-        let found = check_mean(value_at(means, k), y, from + k);
-        if let Outcome::Refused { .. } = found {
-            return found;
-        }
-        k += 1;
+        check_mean(value_at(means, k), y, from + k)?;
     }
-    Outcome::Accepted
+    Ok(())
 }

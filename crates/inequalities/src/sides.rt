@@ -11,16 +11,17 @@ ghost use Rattle.rows.specs.Clauses.{Indexed};
 ghost use Rattle.inequalities.specs.Inequalities.{upper_misses, upper_test, lower_test};
 ghost use Rattle.inequalities.specs.Clauses.{side_test, side_from, side_row, side_block};
 
+use super::missed::unless;
 use delivery::format::SUM_UNIT;
 use delivery::record::value_at;
 use equations::chances::f;
 use live::exits::{is_live, mark};
 use model::format::MOST_ROWS;
 use model::sizes::Sizes;
-use outcome::{Outcome, Reason, difference};
+use outcome::{Outcome, Reason};
 use rows::STARTS;
 
-// Which side of the equations a number stands on: at least f; above f at a live entry; at most f.
+// Which side of the equations a number stands on: at least f; above f at a live entry; at most f. Definitions go by it, so that it is no closure.
 #[derive(Clone, Copy)]
 pub enum Side {
     Upper,
@@ -32,39 +33,28 @@ pub enum Side {
 fn misses(strict: bool, live: bool, upper: u64, y: u64) -> bool
     ensures { result ≡ upper_misses strict live upper y }
 {
-    (upper < y) | (strict & (live & (upper <= y)))
+    upper < y || (strict && live && upper <= y)
 }
 
 // u against f(u) = y: a missed inequality has the shortfall u − y.
+#[tactic(auto, unfolding(crate::specs::Inequalities::upper_test, outcome::specs::Tests::first))]
 fn check_upper(strict: bool, live: bool, u: u64, y: u64, place: usize) -> Outcome
     requires { (u ≤ most_chance) × (y ≤ 2 ^ 61) }
     ensures { result ≡ first (upper_test strict live u y place ∷ []) }
 {
     let have = u * SUM_UNIT;
-    if misses(strict, live, have, y) {
-        return Outcome::Refused {
-            reason: Reason::UpperTooSmall,
-            place,
-            shortfall: difference(have, y),
-        };
-    }
-    Outcome::Accepted
+    let missed = misses(strict, live, have, y);
+    unless(missed, Reason::UpperTooSmall, place, have, y)
 }
 
 // l against f(l) = y: a missed inequality has the shortfall y − l.
+#[tactic(auto, unfolding(crate::specs::Inequalities::lower_test, outcome::specs::Tests::first))]
 fn check_lower(l: u64, y: u64, place: usize) -> Outcome
     requires { (l ≤ most_chance) × (y ≤ 2 ^ 61) }
     ensures { result ≡ first (lower_test l y place ∷ []) }
 {
     let need = l * SUM_UNIT;
-    if y < need {
-        return Outcome::Refused {
-            reason: Reason::LowerTooLarge,
-            place,
-            shortfall: difference(y, need),
-        };
-    }
-    Outcome::Accepted
+    unless(y < need, Reason::LowerTooLarge, place, y, need)
 }
 
 // One number v that is live or not, and f = y.
@@ -85,13 +75,13 @@ fn first_record(side: Side, n: Sizes) -> usize
     ensures { (result ≡ side_from side n.states n.symbols) × (result ≤ most_entries) }
 {
     match side {
-        Side::Upper => 0,
-        Side::StrictUpper => 0,
+        Side::Upper | Side::StrictUpper => 0,
         Side::Lower => n.entries(),
     }
 }
 
 // The numbers of a row, by its number.
+#[tactic(auto, using(crate::proofs::Tests::entries_in_turn), unfolding(delivery::specs::Numbers::uppers_of))]
 fn check_row(
     side: Side,
     model: &[u8],
@@ -106,22 +96,17 @@ fn check_row(
     ensures { result ≡ first (side_row side model.now n live.now block.now row) }
 {
     let from = first_record(side, n);
-    let s = n.states;
-    let mut q = 0;
-    while q < s {
+    for q in 0..n.states {
         let e = n.entry_in(row, q);
         let y = f(model, starts, block, n, row, q);
         let live = is_live(mark(live, row, q));
-        let found = check_side(side, live, value_at(block, e), y, from + e);
-        if let Outcome::Refused { .. } = found {
-            return found;
-        }
-        q += 1;
+        check_side(side, live, value_at(block, e), y, from + e)?;
     }
-    Outcome::Accepted
+    Ok(())
 }
 
 // The numbers of the block of a side, each against f at its entry.
+#[tactic(auto, using(crate::proofs::Tests::rows_in_turn))]
 pub fn check(
     side: Side,
     model: &[u8],
@@ -133,14 +118,8 @@ pub fn check(
     requires { Indexed model.now n starts.now × Chances n block.now }
     ensures { result ≡ first (side_block side model.now n live.now block.now) }
 {
-    let rows = n.rows();
-    let mut k = 0;
-    while k < rows {
-        let found = check_row(side, model, starts, live, block, n, k);
-        if let Outcome::Refused { .. } = found {
-            return found;
-        }
-        k += 1;
+    for k in 0..n.rows() {
+        check_row(side, model, starts, live, block, n, k)?;
     }
-    Outcome::Accepted
+    Ok(())
 }

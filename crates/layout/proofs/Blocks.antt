@@ -1,39 +1,21 @@
--- The outcome of the layout's tests, record by record and block by block, as the code finds it.
+-- The records of each block as the code walks them, state by state, and the lemmas by which the code is proved.
 use Prim.Native.Nat.{ℕ, ◌+◌, ◌*◌}
 use native.Mathlib.Nat.{zero-add}
 use native.Mathlib.Omega.{arith}
-use mathlib.Core.Bool.{Bool, true, false}
 use mathlib.Core.List.{List}
 use mathlib.Core.Path.{◌≡◌, refl, sym, ap, ◌∙◌}
-use lib.IntN.{pos}
-use Rattle.outcome.specs.declared.Outcome.TheVariants.{Accepted, Refused}
-use Rattle.outcome.specs.declared.Reason.TheVariants.{NotDue, ValueOutOfRange}
-use Rattle.outcome.specs.Tests.{Test, first}
+use Rattle.outcome.specs.Tests.{Test}
 use Rattle.walks.specs.Lists.{each}
-use Rattle.outcome.proofs.Tests.{first_empty, first_after, first_stands}
+use Rattle.outcome.proofs.Tests.{first_empty, first_after, first_refused, each_none, each_more, each_refused}
 use Rattle.walks.proofs.Lists.{each_cong}
 use Rattle.delivery.specs.declared.shape.Block.{Block}
 use Rattle.delivery.specs.declared.shape.Block.TheVariants.{Uppers, Lowers, Means}
 use Rattle.delivery.specs.declared.shape.Shape.{Shape}
-use Rattle.delivery.specs.Shapes.{has_lowers, has_means, means_from}
+use Rattle.delivery.specs.Shapes.{means_from}
+use Rattle.delivery.proofs.Shapes.{uppers_fit, lowers_fit, means_fit}
 use Rattle.walks.specs.Order.{entries_in, entry_at, each_entry, each_row}
-use Rattle.delivery.specs.Records.{is_due, in_range}
-use Rattle.layout.specs.Layout.{only_if, record_tests, upper_records, lower_records, mean_records, layout_tests}
+use Rattle.layout.specs.Layout.{record_tests, upper_records, lower_records, mean_records}
 use Rattle.layout.specs.Clauses.{state_of_block}
-
--- The outcome of a record by its tests, in their order.
-module _ (d : List ℕ) (i : ℕ) (k : Block) (p z q : ℕ) where
-  pub due_fails : is_due d i k p z q ≡ false → first (record_tests d i k p z q) ≡ Refused NotDue i (pos 0)
-  unfolding record_tests first
-  due_fails e = rw e
-
-  pub value_fails : is_due d i k p z q ≡ true → in_range d i k ≡ false → first (record_tests d i k p z q) ≡ Refused ValueOutOfRange i (pos 0)
-  unfolding record_tests first
-  value_fails e f = rw (e, f)
-
-  pub record_passes : is_due d i k p z q ≡ true → in_range d i k ≡ true → first (record_tests d i k p z q) ≡ Accepted
-  unfolding record_tests first
-  record_passes e f = rw (e, f)
 
 -- The records of a block of entries that starts at record `from`, state by state.
 entries_walked : (s g from : ℕ) (d : List ℕ) (b : Block) (at : ℕ → ℕ) → ((i : ℕ) → at i ≡ from + i)
@@ -68,25 +50,8 @@ means_walked s g h d {from} e =
     place : (p z : ℕ) → means_from s g h + (p * g + z) ≡ from + p * g * 1 + z * 1 + 0
     place p z = omega arith
 
--- Tests that stand only where a block does.
-pub where_it_stands : (t : Bool) (ts : List Test) → t ≡ true → first (only_if t ts) ≡ first ts
-where_it_stands t ts e = rw e
+-- What a loop over tests goes by.
+pub ruleset turns = (each_none, each_more, each_refused)
 
-pub where_it_does_not : (t : Bool) (ts : List Test) → t ≡ false → first (only_if t ts) ≡ Accepted
-where_it_does_not t ts e = rw e first_empty
-
--- The outcome of the file by its blocks, in their order.
-module _ (s g : ℕ) (h : Shape) (d : List ℕ) where
-  pub uppers_decide : (first (upper_records s g d) ≡ Accepted → ⊥) → first (layout_tests s g h d) ≡ first (upper_records s g d)
-  unfolding layout_tests
-  uppers_decide n = first_stands (upper_records s g d) _ n
-
-  pub lowers_decide : first (upper_records s g d) ≡ Accepted → (first (only_if (has_lowers h) (lower_records s g d)) ≡ Accepted → ⊥)
-      → first (layout_tests s g h d) ≡ first (only_if (has_lowers h) (lower_records s g d))
-  unfolding layout_tests
-  lowers_decide a n = first_after (upper_records s g d) _ a ∙ first_stands (only_if (has_lowers h) (lower_records s g d)) _ n
-
-  pub means_decide : first (upper_records s g d) ≡ Accepted → first (only_if (has_lowers h) (lower_records s g d)) ≡ Accepted
-      → first (layout_tests s g h d) ≡ first (only_if (has_means h) (mean_records s g h d))
-  unfolding layout_tests
-  means_decide a b = first_after (upper_records s g d) _ a ∙ first_after (only_if (has_lowers h) (lower_records s g d)) _ b
+-- What the check of a file goes by: that it has the blocks of its shape, how the code walks each of them, and the lists of tests one after the other.
+pub ruleset blocks = (uppers_fit, lowers_fit, means_fit, uppers_walked, lowers_walked, means_walked, first_refused, first_after, first_empty)

@@ -5,11 +5,9 @@ use mathlib.Core.List.{List}
 use mathlib.Core.Path.{◌≡◌}
 use Rattle.words.specs.Words.{Bytes}
 use Rattle.ppda.specs.Equations.{Vector, RowVector}
-use Rattle.outcome.specs.declared.Outcome.TheVariants.{Accepted}
 use Rattle.outcome.specs.Tests.{first}
 use Rattle.outcome.proofs.Tests.{accepted_exactly}
 use Rattle.delivery.specs.declared.shape.Shape.{Shape}
-use Rattle.delivery.specs.declared.shape.Shaped.TheVariants.{Of}
 use Rattle.delivery.specs.Records.{is_due, in_range}
 use Rattle.delivery.specs.Shapes.{shape_of}
 use Rattle.delivery.specs.Numbers.{uppers_of, lowers_of, means_of}
@@ -18,13 +16,15 @@ use Rattle.delivery.proofs.Due.{AtRecords}
 use Rattle.delivery.proofs.Made.{right_of_made, made_of_due}
 use Rattle.layout.specs.Layout.{layout_tests}
 use Rattle.layout.proofs.Says.{says_record, says_layout}
+use Rattle.outcome.specs.Outcomes.{Accepted}
+use Rattle.std.specs.Prelude.{Some}
 
 pub layout_of_made : (s g : ℕ) (h : Shape) (u l : Vector) (r : RowVector) → NumbersFit s g h u l r
     → first (layout_tests s g h (made_delivery s g h u l r)) ≡ Accepted
 layout_of_made s g h u l r fit =
     (accepted_exactly _).1 ((says_layout s g h (made_delivery s g h u l r) (says_record _)).exactly.1 (right_of_made s g h u l r fit))
 
-pub made_of_delivery : (s g : ℕ) (h : Shape) (d : List ℕ) → shape_of s g d ≡ Of h → first (layout_tests s g h d) ≡ Accepted → Bytes d
+pub made_of_delivery : (s g : ℕ) (h : Shape) (d : List ℕ) → shape_of s g d ≡ Some h → first (layout_tests s g h d) ≡ Accepted → Bytes d
     → made_delivery s g h (uppers_of s g d) (lowers_of s g d) (means_of s g h d) ≡ d
 made_of_delivery s g h d of accepted bytes =
     made_of_due s g h d of

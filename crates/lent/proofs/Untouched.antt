@@ -21,10 +21,10 @@ use denote.Builtin.{u8}
 use denote.Ref.{Bor}
 use denote.Slice.{slice_val, ShrSlice}
 use denote.Triple.Statement.{Contract, Triple}
-use Rattle.outcome.specs.Tests.{is_refused}
+use Rattle.outcome.specs.Outcomes.{is_refused}
 use Rattle.register.specs.declared.Register.{Register}
 use Rattle.register.specs.contracts.Register as R
-use Rattle.lent.proofs.Lent.{Filing}
+use Rattle.lent.proofs.Lent.{Filing, answered}
 
 -- A call that is refused: a share of the register's memory, where it lies and what it holds, and the file, lent for a lifetime.
 pub record RefusedCall (F : Filing) : Type 0 where
@@ -35,7 +35,7 @@ pub record RefusedCall (F : Filing) : Type 0 where
   pub file : Bor (List ℕ)
   pub lifetime : Lft
   pub token : Share
-  pub refused : is_refused (F.outcome (F.files held file.now)) ≡ true
+  pub refused : is_refused (F.answer (F.files held file.now)) ≡ true
 
 module _ (F : Filing) {M : Type 1} {𝓤 : Ura M} (𝓛 : Logic 𝓤) where
   -- the share of the register, and the machine value of the file, its token and what its slice owns
@@ -57,7 +57,7 @@ module _ (F : Filing) {M : Type 1} {𝓤 : Ura M} (𝓛 : Logic 𝓤) where
     Ghost = RefusedCall F;
     args = λ x. vptr x.block x.offset ∷ slice x ∷ [];
     pre = λ x. ⋆ 𝓛 (lent x ∷ token x ∷ bytes x ∷ []);
-    post = λ x u. ⋆ 𝓛 (‵ (F.result.own_val (F.answer (F.files x.held x.file.now)) (u ∷ [])) ∷ lent x ∷ token x ∷ bytes x ∷ []);
+    post = λ x u. ⋆ 𝓛 (‵ ((answered F).own_val (F.answer (F.files x.held x.file.now)) (u ∷ [])) ∷ lent x ∷ token x ∷ bytes x ∷ []);
   }
 
 -- The function of this name meets it wherever the name means its code, as it meets its own contract.
@@ -67,6 +67,6 @@ LeavesUntouched F name code M = (𝓤 : Ura M) (𝓛 : Logic 𝓤) (𝓜 : Model
 
 -- What is refused is not stored.
 pub not_reached : (F : Filing) (x : RefusedCall F) (f : F.given.Denot) (y : Bool) → f ≡ F.files x.held x.file.now
-    → y ≡ not (is_refused (F.outcome f)) → Holds y → ⊥
+    → y ≡ not (is_refused (F.answer f)) → Holds y → ⊥
 not_reached F x f y e d stored =
-    subst (λ (z : Bool). Holds (not z)) (ap (λ (g : F.given.Denot). is_refused (F.outcome g)) e ∙ x.refused) (subst Holds d stored)
+    subst (λ (z : Bool). Holds (not z)) (ap (λ (g : F.given.Denot). is_refused (F.answer g)) e ∙ x.refused) (subst Holds d stored)

@@ -2,74 +2,55 @@
 // one writes to no lent memory (proofs/Untouched.antt).
 
 ghost use Rattle.std.specs.Prelude.{not, ◌≡◌};
-ghost use Rattle.outcome.specs.Tests.{is_refused};
+ghost use Rattle.outcome.specs.Outcomes.{is_refused};
 ghost use Rattle.register.specs.Filing.{file_model, file_delivery};
 ghost use Rattle.register.specs.Merging.{merge_delivery};
 
-use calls::Mark;
-use outcome::Outcome;
+use calls::Receipt;
+use outcome::{Outcome, Refusal};
 use register::Register;
 
-// What filing a delivery, or merging it, answers: the outcome, and the mark of an accepted delivery.
-#[derive(Clone, Copy)]
-pub struct Receipt {
-    pub outcome: Outcome,
-    pub mark: Mark,
+// Whether a filing is stored, by its answer.
+pub fn is_stored<T: Drop>(answer: Result<T, Refusal>) -> bool
+    ensures { result ≡ not (is_refused answer) }
+{
+    answer.is_ok()
 }
 
-// Whether a filing is stored, by its outcome.
-pub fn is_stored(outcome: Outcome) -> bool
-    ensures { result ≡ not (is_refused outcome) }
-{
-    match outcome {
-        Outcome::Accepted => true,
-        Outcome::Refused { .. } => false,
-    }
-}
+// The filings are alike but for their types. Each has code of its own, of which it is proved that a refused one stores nothing.
 
 // Files a model in the lent register.
 pub fn file_model(held: &mut Register, file: &[u8]) -> Outcome
     ensures { (held.new ≡ (file_model held.old file.now).register)
         × (result ≡ (file_model held.old file.now).outcome) }
 {
-    let filed = (*held).file_model(file);
-    let outcome = filed.outcome;
-    if is_stored(outcome) {
+    let filed = held.file_model(file);
+    if is_stored(filed.outcome) {
         *held = filed.register;
     }
-    outcome
+    filed.outcome
 }
 
 // Files a delivery for the model of the lent register.
 pub fn file_delivery(held: &mut Register, file: &[u8]) -> Receipt
     ensures { (held.new ≡ (file_delivery held.old file.now).register)
-        × (result.outcome ≡ (file_delivery held.old file.now).outcome)
-        × (result.mark ≡ (file_delivery held.old file.now).mark) }
+        × (result ≡ (file_delivery held.old file.now).receipt) }
 {
-    let received = (*held).file_delivery(file);
-    let outcome = received.outcome;
-    if is_stored(outcome) {
+    let received = held.file_delivery(file);
+    if is_stored(received.receipt) {
         *held = received.register;
     }
-    Receipt {
-        outcome,
-        mark: received.mark,
-    }
+    received.receipt
 }
 
 // Merges the held delivery of the lent register with a second one.
 pub fn merge_delivery(held: &mut Register, file: &[u8]) -> Receipt
     ensures { (held.new ≡ (merge_delivery held.old file.now).register)
-        × (result.outcome ≡ (merge_delivery held.old file.now).outcome)
-        × (result.mark ≡ (merge_delivery held.old file.now).mark) }
+        × (result ≡ (merge_delivery held.old file.now).receipt) }
 {
-    let received = (*held).merge_delivery(file);
-    let outcome = received.outcome;
-    if is_stored(outcome) {
+    let received = held.merge_delivery(file);
+    if is_stored(received.receipt) {
         *held = received.register;
     }
-    Receipt {
-        outcome,
-        mark: received.mark,
-    }
+    received.receipt
 }

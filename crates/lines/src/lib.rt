@@ -2,6 +2,7 @@
 #![tactic(auto)]
 
 ghost use Rattle.std.specs.Prelude.{◌≡◌, ◌∷◌, ◌+◌, ◌≤◌, length};
+ghost use Rattle.outcome.specs.Reasons.{number_of};
 ghost use Rattle.text.specs.Clauses.{Put};
 ghost use Rattle.calls.specs.Answers.{answer_reply};
 ghost use Rattle.lines.specs.Clauses.{table_room, margin_room, refused_room, chance_room, steps_room, chance_text};
@@ -9,6 +10,7 @@ ghost use Rattle.lines.specs.Lines.{shown, says_live, table_line, margin_line, s
 
 use calls::Answer;
 use live::exits::is_live;
+use outcome::Refusal;
 use text::{put, put_byte, put_field, put_fields, put_signed};
 
 // The most bytes of a line: its word, its fields, each a space and at most 20 digits, and its end.
@@ -36,10 +38,7 @@ pub struct Chance {
 pub fn says_live(answer: Answer) -> bool
     ensures { result ≡ says_live (answer_reply answer) }
 {
-    match answer {
-        Answer::Value(n) => is_live(n),
-        Answer::Refused { .. } => false,
-    }
+    answer.is_ok_and(is_live)
 }
 
 // Puts a space and the number of an answer, or `-` for a refusal.
@@ -48,8 +47,8 @@ fn put_answer(out: &mut [u8], at: usize, answer: Answer) -> usize
     ensures { Put out.old out.new at result (32 ∷ shown (answer_reply answer)) × (result ≤ at + 21) }
 {
     match answer {
-        Answer::Value(n) => put_field(out, at, n),
-        Answer::Refused { .. } => put(out, at, b" -"),
+        Ok(n) => put_field(out, at, n),
+        Err(_) => put(out, at, b" -"),
     }
 }
 
@@ -77,14 +76,23 @@ pub fn put_margin(out: &mut [u8], at: usize, margin: Answer) -> usize
     put_byte(out, at, b'\n')
 }
 
-// A refusal.
+// A refusal by its number, its place and its shortfall.
 pub fn put_refused(out: &mut [u8], at: usize, number: u32, place: usize, shortfall: i64) -> usize
     requires { at + refused_room ≤ length out.old }
     ensures { Put out.old out.new at result (refused_line number place shortfall) × (result ≤ at + refused_room) }
 {
-    let at = put_fields(out, at, b"refused", &[number as u64, place as u64]);
+    let at = put_fields(out, at, b"refused", &[u64::from(number), place as u64]);
     let at = put_signed(out, at, shortfall);
     put_byte(out, at, b'\n')
+}
+
+// A refusal.
+pub fn put_refusal(out: &mut [u8], at: usize, why: Refusal) -> usize
+    requires { at + refused_room ≤ length out.old }
+    ensures { Put out.old out.new at result (refused_line (number_of why.reason) why.place why.shortfall)
+        × (result ≤ at + refused_room) }
+{
+    put_refused(out, at, u32::from(why.reason), why.place, why.shortfall)
 }
 
 // The line of an entry: its lower, its upper and u − f(u); or nothing where it is not live.
@@ -101,10 +109,8 @@ pub fn put_chance(out: &mut [u8], at: usize, chance: Chance) -> usize
         b"chance",
         &[chance.p as u64, chance.z as u64, chance.q as u64],
     );
-    let lower = chance.lower;
-    let at = put_answer(out, at, lower);
-    let upper = chance.upper;
-    let at = put_answer(out, at, upper);
+    let at = put_answer(out, at, chance.lower);
+    let at = put_answer(out, at, chance.upper);
     let at = put_field(out, at, chance.gap);
     put_byte(out, at, b'\n')
 }
@@ -114,7 +120,7 @@ pub fn put_steps(out: &mut [u8], at: usize, p: usize, z: usize, mean: Answer) ->
     requires { at + steps_room ≤ length out.old }
     ensures { Put out.old out.new at result (steps_by p z (answer_reply mean)) × (result ≤ at + steps_room) }
 {
-    let Answer::Value(steps) = mean else {
+    let Ok(steps) = mean else {
         return at;
     };
     let at = put_fields(out, at, b"steps", &[p as u64, z as u64, steps]);

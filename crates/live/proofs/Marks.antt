@@ -8,7 +8,7 @@ use mathlib.Core.List.{List}
 use mathlib.Core.Logic.{◌⊎◌, inl, inr}
 use mathlib.Core.Path.{◌≡◌, refl, sym, ap, ◌∙◌}
 use lib.Dec.{eqb}
-use lib.ListN.{length, get_or, set, replicate, length-set, length-replicate}
+use lib.ListN.{get_or, set, replicate, length-set, length-replicate}
 use lib.Seq.{get_or-set_same, get_or-set_other}
 use borrow.Author.Tests.{eqb-true, eqb-false}
 use Rattle.walks.specs.Sums.{sign}
@@ -18,7 +18,7 @@ use Rattle.ppda.specs.Live.{mark, alive}
 use Rattle.model.specs.Rules.{rules_of}
 use Rattle.walks.proofs.Lists.{get_d_zeros}
 use Rattle.walks.proofs.Places.{row_at_lem, row_below}
-use Rattle.live.specs.Clauses.{bit_of, exit_marks, ExitsOf, next_mark, NextExits, RoundTo}
+use Rattle.live.specs.Clauses.{exit_marks, ExitsOf, next_mark, NextExits, RoundTo}
 use Rattle.model.specs.Clauses.{Sized}
 use Rattle.live.proofs.Bits.{bit_none}
 use Rattle.model.specs.Format.{most_rows}
@@ -28,9 +28,6 @@ use Rattle.ppda.proofs.Vectors.{f_same}
 -- ---- one round, row by row
 
 module _ {b : List ℕ} {s g : ℕ} {marks : List ℕ} where
-  pub round_none : {l : List ℕ} → length l ≡ most_rows → RoundTo b s g marks 0 l
-  round_none size = record { size = size; done = λ p z hp hz h. absurd (omega arith) }
-
   -- One row more.
   pub round_more : {l : List ℕ} {n : ℕ} (m : ℕ) → RoundTo b s g marks n l → n < most_rows → NextExits b s g marks (n / g) (n % g) m
       → RoundTo b s g marks (n + 1) (set l n m)
@@ -47,10 +44,6 @@ module _ {b : List ℕ} {s g : ℕ} {marks : List ℕ} where
       done p z hp hz h false u =
           let other = eqb-false (p * g + z) n u in
           rw (get_or-set_other l n (p * g + z) m 0 other) (to.done p z hp hz (omega arith))
-
-  -- The same rows, counted in another way.
-  pub round_at : {l : List ℕ} {n n' : ℕ} → RoundTo b s g marks n l → n ≡ n' → RoundTo b s g marks n' l
-  round_at to e = rw e at to
 
 -- ---- all rounds
 
@@ -88,14 +81,9 @@ module _ {b : List ℕ} {s g : ℕ} (sized : Sized b s g) (marks : List ℕ) (k 
       ∙ ap sign (f_same (sized_model sized) 1 (exit_marks g marks) (mark (rules_of b) s k) held.marks p z q hq)
       ∙ sym (mark_next (rules_of b) s k p z q)
 
-  -- The list that the next round is copied to.
-  pub marks_next : {next l : List ℕ} → RoundTo b s g marks (s * g) next → length l ≡ most_rows
-      → ((e : ℕ) → e < s * g → get_or l e 0 ≡ get_or next e 0) → ExitsOf s g (mark (rules_of b) s (k + 1)) l
-  marks_next to size copied =
-      record {
-        size = size;
-        marks = λ p z q hp hz hq. ap (λ n. bit_of n q) (copied (p * g + z) (row_below s g p z hp hz)) ∙ one_more to p z q hp hz hq;
-      }
+  -- The list of the next round has the marks of one round more.
+  pub marks_next : {next : List ℕ} → RoundTo b s g marks (s * g) next → ExitsOf s g (mark (rules_of b) s (k + 1)) next
+  marks_next to = record { size = to.size; marks = one_more to }
 
   -- As many rounds as there are entries, or a round that changes nothing, give the live marks.
   pub marks_all : k ≡ s * g * s → ExitsOf s g (alive (rules_of b) s g) marks
@@ -104,7 +92,7 @@ module _ {b : List ℕ} {s g : ℕ} (sized : Sized b s g) (marks : List ℕ) (k 
       record { size = held.size; marks = λ p z q hp hz hq. held.marks p z q hp hz hq ∙ ap (λ n. mark (rules_of b) s n p z q) e }
 
   pub marks_unchanged : {next : List ℕ} → k ≤ s * g * s → RoundTo b s g marks (s * g) next
-      → ((e : ℕ) → e < s * g → get_or marks e 0 ≡ get_or next e 0) → ExitsOf s g (alive (rules_of b) s g) marks
+      → marks ≡ next → ExitsOf s g (alive (rules_of b) s g) marks
   unfolding alive
   marks_unchanged l to unchanged =
       record {
@@ -115,5 +103,5 @@ module _ {b : List ℕ} {s g : ℕ} (sized : Sized b s g) (marks : List ℕ) (k 
       still : Same s g (mark (rules_of b) s k) (mark (rules_of b) s (k + 1))
       still p z q hp hz hq =
           sym (held.marks p z q hp hz hq)
-          ∙ ap (λ n. bit_of n q) (unchanged (p * g + z) (row_below s g p z hp hz))
+          ∙ ap (λ l. exit_marks g l p z q) unchanged
           ∙ one_more to p z q hp hz hq

@@ -43,10 +43,11 @@ pub fn mark(live: &[u8; MOST_ROWS], row: usize, q: usize) -> u64
     requires { (row < most_rows) × (q < most_states) }
     ensures { (result ≡ bit_of (get_or live.now row 0) q) × (result ≤ 1) }
 {
-    bit(live[row], q) as u64
+    u64::from(bit(live[row], q))
 }
 
 // Whether a mark says that its entry is live.
+#[tactic(auto, unfolding(ppda::specs::Live::is_live))]
 pub fn is_live(mark: u64) -> bool
     ensures { result ≡ is_live mark }
 {
@@ -58,14 +59,11 @@ fn exits_of_two(marks: &[u8; MOST_ROWS], n: Sizes, first: u8, x: usize) -> u8
     requires { Fits n.states n.symbols × (x < n.symbols) }
     ensures { (q : ℕ) → bit_of result q ≡ sign (sum_to (mark_product n.symbols marks.now first x q) n.states) }
 {
-    let s = n.states;
     let mut exits = 0u8;
-    let mut t = 0;
-    while t < s {
+    for t in 0..n.states {
         if bit(first, t) == 1 {
             exits = joined(exits, marks[n.row(t, x)]);
         }
-        t += 1;
     }
     exits
 }
@@ -88,6 +86,7 @@ fn exits_through(model: &[u8], i: usize, marks: &[u8; MOST_ROWS], n: Sizes) -> u
 }
 
 // The exits of a row, by its number, after one more round.
+#[tactic(auto, using(model::proofs::Accepted::sized_fits))]
 pub(crate) fn next_exits(
     model: &[u8],
     starts: &[u16; STARTS],
@@ -98,12 +97,11 @@ pub(crate) fn next_exits(
     requires { Indexed model.now n starts.now × (row < rows_in n.states n.symbols) }
     ensures { NextExitsOf model.now n marks.now row result }
 {
-    let end = starts[row + 1] as usize;
-    let mut i = starts[row] as usize;
+    let start = usize::from(starts[row]);
+    let end = usize::from(starts[row + 1]);
     let mut exits = 0u8;
-    while i < end {
+    for i in start..end {
         exits = joined(exits, exits_through(model, i, marks, n));
-        i += 1;
     }
     exits
 }

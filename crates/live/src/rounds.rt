@@ -1,6 +1,6 @@
 // The live marks, by rounds of f from zero everywhere.
 
-ghost use Rattle.std.specs.Prelude.{◌≡◌, true, ℕ, ◌≤◌, ◌<◌, length, get_or, replicate};
+ghost use Rattle.std.specs.Prelude.{◌≡◌, replicate};
 ghost use Rattle.ppda.specs.Live.{alive};
 ghost use Rattle.walks.specs.Order.{rows_in};
 ghost use Rattle.model.specs.Format.{most_rows};
@@ -14,6 +14,7 @@ use model::sizes::Sizes;
 use rows::STARTS;
 
 // One round: every row by the marks before.
+#[tactic(auto, using(model::proofs::Accepted::sized_fits))]
 fn round(
     model: &[u8],
     starts: &[u16; STARTS],
@@ -21,59 +22,26 @@ fn round(
     next: &mut [u8; MOST_ROWS],
     n: Sizes,
 )
-    requires { Indexed model.now n starts.now × (length next.old ≡ most_rows) }
+    requires { Indexed model.now n starts.now }
     ensures { RoundTo model.now n.states n.symbols marks.now (rows_in n.states n.symbols) next.new }
 {
-    let rows = n.rows();
-    let mut k = 0;
-    while k < rows {
+    for k in 0..n.rows() {
         next[k] = next_exits(model, starts, marks, n, k);
-        k += 1;
-    }
-}
-
-// Whether the first n rows have the same exits.
-fn same(a: &[u8; MOST_ROWS], b: &[u8; MOST_ROWS], n: usize) -> bool
-    requires { n ≤ most_rows }
-    ensures { result ≡ true → (k : ℕ) → k < n → get_or a.now k 0 ≡ get_or b.now k 0 }
-{
-    let mut k = 0;
-    while k < n {
-        if a[k] != b[k] {
-            return false;
-        }
-        k += 1;
-    }
-    true
-}
-
-// Copies the exits of the first n rows.
-fn copy(from: &[u8; MOST_ROWS], to: &mut [u8; MOST_ROWS], n: usize)
-    requires { (n ≤ most_rows) × (length to.old ≡ most_rows) }
-    ensures size { length to.new ≡ most_rows }
-    ensures copied { (k : ℕ) → k < n → get_or to.new k 0 ≡ get_or from.now k 0 }
-{
-    let mut k = 0;
-    while k < n {
-        to[k] = from[k];
-        k += 1;
     }
 }
 
 // Finds the live marks, from none: as many rounds as there are entries, or fewer once a round changes nothing.
+#[tactic(auto, using(model::proofs::Accepted::sized_fits))]
 pub fn find_marks(model: &[u8], starts: &[u16; STARTS], n: Sizes, marks: &mut [u8; MOST_ROWS])
     requires { Indexed model.now n starts.now × (marks.old ≡ replicate most_rows 0) }
     ensures { ExitsOf n.states n.symbols (alive (rules_of model.now) n.states n.symbols) marks.new }
 {
-    let rows = n.rows();
-    let mut left = n.entries();
     let mut next = [0u8; MOST_ROWS];
-    while 0 < left {
+    for _done in 0..n.entries() {
         round(model, starts, marks, &mut next, n);
-        if same(marks, &next, rows) {
+        if *marks == next {
             return;
         }
-        copy(&next, marks, rows);
-        left -= 1;
+        *marks = next;
     }
 }

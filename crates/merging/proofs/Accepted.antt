@@ -5,7 +5,6 @@ use native.Mathlib.Omega.{arith}
 use mathlib.Core.Bool.{Bool, true, false, ◌&&◌, ◌||◌, false≢true, and-eq-true_iff}
 use mathlib.Core.List.{List}
 use mathlib.Core.Path.{◌≡◌, refl, sym, ◌∙◌}
-use Rattle.outcome.specs.declared.Outcome.TheVariants.{Accepted}
 use Rattle.walks.specs.Order.{AtEntries}
 use Rattle.walks.proofs.Numbers.{max_either}
 use Rattle.ppda.specs.Units.{chance_unit, step_unit}
@@ -35,6 +34,7 @@ use Rattle.delivery.proofs.Merged.{lowers_with, means_with, merged_is, mean_eith
 use Rattle.verdict.specs.Accepted.{RecordDue, UppersRight, LowersRight, MeansRight, DeliveryFile, RightFiles}
 use Rattle.verdict.specs.Verdict.{verdict}
 use Rattle.verdict.proofs.Accepted.{BlocksRight, live_exactly, dead_exactly, delivery_accepted}
+use Rattle.outcome.specs.Outcomes.{Accepted}
 
 -- ---- what holds of vectors holds of those with the same numbers
 

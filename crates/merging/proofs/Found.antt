@@ -1,58 +1,48 @@
 -- The merged lists and the margin, as the code finds them.
 use Prim.Native.Nat.{ℕ, ◌≤◌, ◌<◌, min}
 use native.Mathlib.Omega.{arith}
-use mathlib.Core.Bool.{Bool, true, false, cond, ◌&&◌}
+use mathlib.Core.Bool.{Bool, cond, ◌&&◌}
 use mathlib.Core.List.{List}
 use mathlib.Core.Logic.{◌⊎◌, inl, inr}
-use mathlib.Core.Path.{◌≡◌, ap₂, ◌∙◌}
-use lib.ListN.{get_or}
-use Rattle.outcome.specs.declared.Outcome.TheVariants.{Accepted}
-use Rattle.walks.specs.Order.{rows_in, entries_in, AtEntries}
+use mathlib.Core.Path.{◌≡◌, ◌∙◌}
+use lib.ListN.{get_or, replicate, length-replicate}
+use Rattle.walks.specs.Order.{entries_in, AtEntries}
+use Rattle.walks.proofs.Lists.{get_d_zeros}
 use Rattle.walks.proofs.Numbers.{less_or_not}
 use Rattle.walks.proofs.Exits.{exit_ordered}
 use Rattle.ppda.specs.Units.{most_chance}
 use Rattle.ppda.proofs.Vectors.{margin_same}
+use Rattle.model.specs.Format.{most_entries}
 use Rattle.model.specs.Records.{states_of, symbols_of}
 use Rattle.model.specs.Clauses.{Fits, Sized}
 use Rattle.model.proofs.Accepted.{sized_model}
 use Rattle.delivery.specs.declared.shape.Shape.{Shape}
-use Rattle.delivery.specs.Shapes.{has_lowers, has_means}
-use Rattle.delivery.specs.Numbers.{uppers_of, lowers_of, means_of}
+use Rattle.delivery.specs.Shapes.{has_lowers}
+use Rattle.delivery.specs.Numbers.{uppers_of}
 use Rattle.verdict.specs.Verdict.{verdict}
 use Rattle.verdict.specs.Accepted.{UppersRight}
 use Rattle.verdict.proofs.Accepted.{delivery_accepted}
 use Rattle.certificate.specs.Margin.{margin_of}
 use Rattle.held.specs.declared.Numbers.{Numbers}
-use Rattle.held.specs.Held.{listed_by_exit, listed_rows, if_standing, numbers_held}
+use Rattle.held.specs.Held.{listed_by_exit, numbers_held}
 use Rattle.held.specs.Places.{entries_by_exit}
-use Rattle.held.proofs.Listed.{padded_at, padded_past, listed_most}
-use Rattle.held.proofs.Blocks.{where_it_stands}
-use Rattle.merging.specs.declared.Keep.TheVariants.{Smaller, Larger}
+use Rattle.held.proofs.Listed.{padded_is, padded_at, padded_past, listed_most}
 use Rattle.merging.specs.Numbers.{kept_to, margin_in, numbers_merged}
-use Rattle.merging.specs.Clauses.{uppers_merged, lowers_merged, means_merged, ChancesListed, Holds}
+use Rattle.merging.specs.Clauses.{KeptBy, uppers_merged, lowers_merged, means_merged, ChancesListed, Holds}
 use Rattle.merging.proofs.Lists.{block_uppers}
+use Rattle.outcome.specs.Outcomes.{Accepted}
 
 -- ---- each list
 
-module _ (s g : ℕ) (former : Numbers) (d : List ℕ) {n : ℕ} {b r : List ℕ} where
-  pub uppers_found : n ≡ entries_in s g → b ≡ listed_by_exit s g (uppers_of s g d) → r ≡ kept_to Smaller n former.uppers b → r ≡ uppers_merged s g former d
-  uppers_found e second is = is ∙ ap₂ (λ k l. kept_to Smaller k former.uppers l) e second
+-- Before the first pair all are 0.
+pub kept_none : (answers : ℕ → ℕ → ℕ → Type 0) (l k : List ℕ) → KeptBy answers 0 l k (replicate most_entries 0)
+kept_none answers l k =
+    record { size = length-replicate {A = ℕ} most_entries 0; kept = λ e lt. absurd (omega arith); none = λ e le. get_d_zeros most_entries e }
 
-  module _ (h k : Shape) where
-    pub lowers_found : (has_lowers h && has_lowers k) ≡ true → n ≡ entries_in s g → b ≡ if_standing (has_lowers k) (listed_by_exit s g (lowers_of s g d))
-        → r ≡ kept_to Larger n former.lowers b → r ≡ lowers_merged s g h former k d
-    lowers_found both e second is = where_it_stands both (is ∙ rw (e, second))
-
-    pub means_of_both : has_means h ≡ true → has_means k ≡ true → n ≡ rows_in s g → b ≡ if_standing (has_means k) (listed_rows s g (means_of s g k d))
-        → r ≡ kept_to Smaller n former.means b → r ≡ means_merged s g h former k d
-    means_of_both first second e list is = is ∙ rw (e, list, first, second)
-
-module _ (s g : ℕ) (former : Numbers) (d : List ℕ) (h k : Shape) where
-  pub means_of_held : has_means h ≡ true → has_means k ≡ false → former.means ≡ means_merged s g h former k d
-  means_of_held first second = rw (first, second)
-
-  pub means_of_second : {b : List ℕ} → has_means h ≡ false → b ≡ if_standing (has_means k) (listed_rows s g (means_of s g k d)) → b ≡ means_merged s g h former k d
-  means_of_second first list = list ∙ rw first
+-- Where the rule's answers are known, the list is the definition's.
+pub kept_is : {rule : ℕ → ℕ → ℕ} {n : ℕ} {l k r : List ℕ} → KeptBy (λ x y v. v ≡ rule x y) n l k r → r ≡ kept_to rule n l k
+unfolding kept_to
+kept_is by = padded_is by.size by.kept by.none
 
 -- ---- the margin
 

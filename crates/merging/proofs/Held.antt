@@ -1,6 +1,6 @@
 -- The numbers that a register holds after a merge are those of the merged file, which has been accepted then: of listed numbers the sharper of each pair are
 -- the listed numbers of the sharper vectors.
-use Prim.Native.Nat.{ℕ, ◌≤◌, min}
+use Prim.Native.Nat.{ℕ, ◌≤◌, min, max}
 use native.Mathlib.Omega.{arith}
 use mathlib.Core.Bool.{Bool, true, false, cond, ◌&&◌, ◌||◌}
 use mathlib.Core.List.{List}
@@ -28,32 +28,30 @@ use Rattle.certificate.specs.Margin.{margin_of}
 use Rattle.held.specs.declared.Numbers.{Numbers}
 use Rattle.held.specs.Held.{padded, listed_rows, if_standing, numbers_held}
 use Rattle.held.proofs.Listed.{padded_at, padded_cong, listed_at, rows_cong}
-use Rattle.merging.specs.declared.Keep.{Keep}
-use Rattle.merging.specs.declared.Keep.TheVariants.{Smaller, Larger}
-use Rattle.merging.specs.Numbers.{kept, kept_to, means_to, numbers_merged}
+use Rattle.merging.specs.Numbers.{kept_to, means_to, numbers_merged}
 use Rattle.merging.proofs.Accepted.{files_fit}
 
 -- ---- listed numbers
 
 -- In an order of entries, what is kept of two listed vectors is the listed vector of what is kept.
 module _ {s g : ℕ} {place : ℕ → ℕ → ℕ → ℕ} {by : Vector → ℕ → ℕ} (o : Ordered s g place by) (few : entries_in s g ≤ most_entries) where
-  pub kept_listed : (which : Keep) (u v m : Vector) → Same s g m (λ p z q. kept which (u p z q) (v p z q))
-      → kept_to which (entries_in s g) (padded (by u) (entries_in s g)) (padded (by v) (entries_in s g)) ≡ padded (by m) (entries_in s g)
+  pub kept_listed : (rule : ℕ → ℕ → ℕ) (u v m : Vector) → Same s g m (λ p z q. rule (u p z q) (v p z q))
+      → kept_to rule (entries_in s g) (padded (by u) (entries_in s g)) (padded (by v) (entries_in s g)) ≡ padded (by m) (entries_in s g)
   unfolding kept_to
-  kept_listed which u v m same =
+  kept_listed rule u v m same =
       padded_cong _ (by m) (entries_in s g) few
       (at_places o
-      (λ e. kept which (get_or (padded (by u) (entries_in s g)) e 0) (get_or (padded (by v) (entries_in s g)) e 0) ≡ by m e)
+      (λ e. rule (get_or (padded (by u) (entries_in s g)) e 0) (get_or (padded (by v) (entries_in s g)) e 0) ≡ by m e)
       (λ p z q hp hz hq.
-      ap₂ (kept which) (listed_at o u p z q hp hz hq few) (listed_at o v p z q hp hz hq few)
+      ap₂ rule (listed_at o u p z q hp hz hq few) (listed_at o v p z q hp hz hq few)
       ∙ sym (same p z q hp hz hq) ∙ sym (o.stands m p z q hp hz hq)))
 
   -- A block that both deliveries have, or that is absent.
   pub both_listed : (x y : Bool) (l k m : Vector) → ((x && y) ≡ true → Same s g m (larger l k))
       → if_standing (x && y)
-      (kept_to Larger (entries_in s g) (if_standing x (padded (by l) (entries_in s g))) (if_standing y (padded (by k) (entries_in s g))))
+      (kept_to max (entries_in s g) (if_standing x (padded (by l) (entries_in s g))) (if_standing y (padded (by k) (entries_in s g))))
       ≡ if_standing (x && y) (padded (by m) (entries_in s g))
-  both_listed true true l k m same = kept_listed Larger l k m (same refl)
+  both_listed true true l k m same = kept_listed max l k m (same refl)
   both_listed true false l k m same = refl
   both_listed false y l k m same = refl
 
@@ -61,7 +59,7 @@ module _ {s g : ℕ} (fits : Fits s g) where
   few_rows : rows_in s g ≤ most_entries
   few_rows = omega (arith, fits.few_rows)
 
-  rows_listed : (r t : RowVector) → kept_to Smaller (rows_in s g) (listed_rows s g r) (listed_rows s g t) ≡ listed_rows s g (smaller_rows r t)
+  rows_listed : (r t : RowVector) → kept_to min (rows_in s g) (listed_rows s g r) (listed_rows s g t) ≡ listed_rows s g (smaller_rows r t)
   unfolding kept_to
   rows_listed r t =
       padded_cong _ _ (rows_in s g) few_rows (λ e lt. ap₂ min (padded_at _ _ e lt few_rows) (padded_at _ _ e lt few_rows))
@@ -93,11 +91,11 @@ merged_in place b h former k second =
     let s = states_of b in
     let g = symbols_of b in
     record {
-      uppers = kept_to Smaller (entries_in s g) former.uppers second.uppers;
-      lowers = if_standing (has_lowers h && has_lowers k) (kept_to Larger (entries_in s g) former.lowers second.lowers);
+      uppers = kept_to min (entries_in s g) former.uppers second.uppers;
+      lowers = if_standing (has_lowers h && has_lowers k) (kept_to max (entries_in s g) former.lowers second.lowers);
       means = means_to (rows_in s g) (has_means h) (has_means k) former.means second.means;
       margin = cond (has_lowers h && has_lowers k)
-          (margin (rules_of b) s g (λ p z q. get_or (kept_to Smaller (entries_in s g) former.uppers second.uppers) (place p z q) 0)) 0;
+          (margin (rules_of b) s g (λ p z q. get_or (kept_to min (entries_in s g) former.uppers second.uppers) (place p z q) 0)) 0;
     }
 
 -- Whatever the order, of accepted deliveries the merged numbers are those of the merged file.
@@ -114,9 +112,9 @@ merged_in_order b e d one other {place} {by} o =
     let model = is_model_lem b one.model in
     let fits = sized_fits (sized_of ((model_accepted b).1 one.model) refl refl) in
     let fit = files_fit b e d one other in
-    let listed-uppers : kept_to Smaller (entries_in s g) (padded (by (uppers_of s g e)) (entries_in s g)) (padded (by (uppers_of s g d)) (entries_in s g))
+    let listed-uppers : kept_to min (entries_in s g) (padded (by (uppers_of s g e)) (entries_in s g)) (padded (by (uppers_of s g d)) (entries_in s g))
     ≡ padded (by (uppers_of s g (merged_of s g h k e d))) (entries_in s g) =
-    kept_listed o fits.few_entries Smaller (uppers_of s g e) (uppers_of s g d) _ (merged_uppers s g h k e d fit) in
+    kept_listed o fits.few_entries min (uppers_of s g e) (uppers_of s g d) _ (merged_uppers s g h k e d fit) in
     rw (
       merged_is b e d one.delivery.shape other.delivery.shape,
       listed-uppers,

@@ -10,21 +10,14 @@ use Rattle.delivery.specs.Shapes.{has_lowers, has_means}
 use Rattle.held.specs.declared.Numbers.{Numbers}
 use Rattle.held.specs.Held.{padded, if_standing}
 use Rattle.held.specs.Places.{entries_by_exit}
-use Rattle.merging.specs.declared.Keep.{Keep}
-use Rattle.merging.specs.declared.Keep.TheVariants.{Smaller, Larger}
 
--- Of two numbers the smaller, or the larger.
-abbrev pub kept : Keep → ℕ → ℕ → ℕ
-kept Smaller a c = min a c
-kept Larger a c = max a c
-
--- The smaller, or the larger, of the first n numbers of two lists.
-unfoldable pub kept_to : Keep → ℕ → List ℕ → List ℕ → List ℕ
-kept_to which n l k = padded (λ e. kept which (get_or l e 0) (get_or k e 0)) n
+-- What the rule keeps of each pair of the first n numbers of two lists: with min the smaller, with max the larger.
+unfoldable pub kept_to : (ℕ → ℕ → ℕ) → ℕ → List ℕ → List ℕ → List ℕ
+kept_to rule n l k = padded (λ e. rule (get_or l e 0) (get_or k e 0)) n
 
 -- The mean steps of the first n rows, by whether the one and the other delivery has any: of both the smaller, of one that one's.
 abbrev pub means_to : ℕ → Bool → Bool → List ℕ → List ℕ → List ℕ
-means_to n true true l k = kept_to Smaller n l k
+means_to n true true l k = kept_to min n l k
 means_to n true false l k = l
 means_to n false other l k = k
 
@@ -36,9 +29,9 @@ margin_in b u = margin (rules_of b) (states_of b) (symbols_of b) (entries_by_exi
 unfoldable pub numbers_merged : List ℕ → Shape → Numbers → Shape → Numbers → Numbers
 numbers_merged b h former k second =
     record {
-      uppers = kept_to Smaller (entries_in (states_of b) (symbols_of b)) former.uppers second.uppers;
-      lowers = if_standing (has_lowers h && has_lowers k) (kept_to Larger (entries_in (states_of b) (symbols_of b)) former.lowers second.lowers);
+      uppers = kept_to min (entries_in (states_of b) (symbols_of b)) former.uppers second.uppers;
+      lowers = if_standing (has_lowers h && has_lowers k) (kept_to max (entries_in (states_of b) (symbols_of b)) former.lowers second.lowers);
       means = means_to (rows_in (states_of b) (symbols_of b)) (has_means h) (has_means k) former.means second.means;
       margin = cond (has_lowers h && has_lowers k)
-          (margin_in b (kept_to Smaller (entries_in (states_of b) (symbols_of b)) former.uppers second.uppers)) 0;
+          (margin_in b (kept_to min (entries_in (states_of b) (symbols_of b)) former.uppers second.uppers)) 0;
     }

@@ -11,8 +11,8 @@ ghost use Rattle.delivery.specs.Clauses.{ShapedFile};
 ghost use Rattle.certificate.specs.Clauses.{AcceptedFile};
 ghost use Rattle.held.specs.Held.{numbers_held};
 ghost use Rattle.held.specs.Clauses.{HasEntries};
-ghost use Rattle.merging.specs.Numbers.{kept, kept_to, margin_in, numbers_merged};
-ghost use Rattle.merging.specs.Clauses.{uppers_merged, lowers_merged, means_merged, ChancesListed, Holds};
+ghost use Rattle.merging.specs.Numbers.{margin_in, numbers_merged};
+ghost use Rattle.merging.specs.Clauses.{KeptBy, uppers_merged, lowers_merged, means_merged, ChancesListed, Holds};
 
 use certificate::margins::margin_of_uppers;
 use delivery::format::{RECORD_BYTES, VALUE_BYTE};
@@ -26,13 +26,6 @@ use words::put_word;
 
 // The bytes of the longest block.
 const BLOCK_BYTES: usize = RECORD_BYTES * MOST_ENTRIES;
-
-// Which of two numbers is kept.
-#[derive(Clone, Copy)]
-pub enum Keep {
-    Smaller,
-    Larger,
-}
 
 // Whether both deliveries have lowers.
 fn both_lowers(held: Shape, second: Shape) -> bool
@@ -52,10 +45,12 @@ fn either_means(held: Shape, second: Shape) -> bool
 fn shape_with(lowers: bool, means: bool) -> Shape
     ensures { result ≡ shape_with lowers means }
 {
-    if lowers {
-        return if means { Shape::ULR } else { Shape::UL };
+    match (lowers, means) {
+        (true, true) => Shape::ULR,
+        (true, false) => Shape::UL,
+        (false, true) => Shape::UR,
+        (false, false) => Shape::U,
     }
-    if means { Shape::UR } else { Shape::U }
 }
 
 // The shape of the merged delivery: lowers where both have them, mean steps where either has.
@@ -65,31 +60,19 @@ pub fn merged_shape(held: Shape, second: Shape) -> Shape
     shape_with(both_lowers(held, second), either_means(held, second))
 }
 
-// Of two numbers the smaller, or the larger.
-fn kept(which: Keep, a: u32, b: u32) -> u32
-    ensures { result ≡ kept which a b }
-{
-    match which {
-        Keep::Smaller => { if a < b { a } else { b } }
-        Keep::Larger => { if a < b { b } else { a } }
-    }
-}
-
-// The smaller, or the larger, of the first n numbers of two lists.
-fn kept_of(
-    which: Keep,
+// What the rule keeps of each pair of the first n numbers of two lists.
+fn kept_of<F: Fn(u32, u32) -> u32>(
+    rule: F,
     a: &[u32; MOST_ENTRIES],
     b: &[u32; MOST_ENTRIES],
     n: usize,
 ) -> [u32; MOST_ENTRIES]
-    requires { n ≤ most_entries }
-    ensures { result ≡ kept_to which n a.now b.now }
+    requires { F.IsAlwaysCallable rule × (n ≤ most_entries) }
+    ensures { KeptBy (F.post rule) n a.now b.now result }
 {
     let mut list = [0u32; MOST_ENTRIES];
-    let mut e = 0;
-    while e < n {
-        list[e] = kept(which, a[e], b[e]);
-        e += 1;
+    for e in 0..n {
+        list[e] = rule(a[e], b[e]);
     }
     list
 }
@@ -99,9 +82,8 @@ fn merged_uppers(former: Numbers, file: &[u8], n: Sizes) -> [u32; MOST_ENTRIES]
     requires { HasEntries n file.now }
     ensures { result ≡ uppers_merged n.states n.symbols former file.now }
 {
-    let held = former.uppers;
-    let second = values_by_exit(file, n);
-    kept_of(Keep::Smaller, &held, &second, n.entries())
+    let uppers = values_by_exit(file, n);
+    kept_of(u32::min, &former.uppers, &uppers, n.entries())
 }
 
 // The larger lowers, where both deliveries have any.
@@ -118,9 +100,8 @@ fn merged_lowers(
     if !both_lowers(held, second) {
         return [0u32; MOST_ENTRIES];
     }
-    let a = former.lowers;
-    let b = lowers_of(file, n, second);
-    kept_of(Keep::Larger, &a, &b, n.entries())
+    let lowers = lowers_of(file, n, second);
+    kept_of(u32::max, &former.lowers, &lowers, n.entries())
 }
 
 // The mean steps: of both the smaller, of one that one's.
@@ -134,15 +115,14 @@ fn merged_means(
     requires { ShapedFile n second file.now }
     ensures { result ≡ means_merged n.states n.symbols held former second file.now }
 {
-    let b = means_of(file, n, second);
+    let means = means_of(file, n, second);
     if !has_means(held) {
-        return b;
+        return means;
     }
-    let a = former.means;
     if !has_means(second) {
-        return a;
+        return former.means;
     }
-    kept_of(Keep::Smaller, &a, &b, n.rows())
+    kept_of(u32::min, &former.means, &means, n.rows())
 }
 
 // Puts the listed uppers of a row into its records, behind those of the rows before it.
@@ -151,13 +131,10 @@ fn put_row(list: &[u32; MOST_ENTRIES], n: Sizes, row: usize, block: &mut [u8; BL
     requires before { Holds n.states n.symbols list.now (row * n.states) block.old }
     ensures { Holds n.states n.symbols list.now ((row + 1) * n.states) block.new }
 {
-    let s = n.states;
-    let mut q = 0;
-    while q < s {
+    for q in 0..n.states {
         let e = n.entry_in(row, q);
         let at = n.exit_in(row, q);
         put_word(block, RECORD_BYTES * e + VALUE_BYTE, list[at]);
-        q += 1;
     }
 }
 
@@ -167,11 +144,8 @@ fn block_of(list: &[u32; MOST_ENTRIES], n: Sizes) -> [u8; BLOCK_BYTES]
     ensures { Holds n.states n.symbols list.now (entries_in n.states n.symbols) result }
 {
     let mut block = [0u8; BLOCK_BYTES];
-    let rows = n.rows();
-    let mut row = 0;
-    while row < rows {
+    for row in 0..n.rows() {
         put_row(list, n, row, &mut block);
-        row += 1;
     }
     block
 }
@@ -181,11 +155,11 @@ fn merged_margin(model: &[u8], n: Sizes, stand: bool, uppers: &[u32; MOST_ENTRIE
     requires { Sized model.now n.states n.symbols × ChancesListed uppers.now }
     ensures { result ≡ cond stand (margin_in model.now uppers.now) 0 }
 {
-    if !stand {
-        return 0;
+    if stand {
+        margin_of_uppers(model, &block_of(uppers, n), n)
+    } else {
+        0
     }
-    let block = block_of(uppers, n);
-    margin_of_uppers(model, &block, n)
 }
 
 // The held numbers of a delivery of shape `held`, merged with those of the accepted delivery `file` of shape `second`.

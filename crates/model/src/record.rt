@@ -12,12 +12,15 @@ use super::format::{
 };
 
 // Byte k of record i.
+#[tactic(auto, unfolding(crate::specs::Records::field))]
 fn field(model: &[u8], i: usize, k: usize) -> usize
     requires { HasRecord model.now i × (k < record_bytes) }
     ensures { (result ≡ field model.now i k) × (result < 65536) }
 {
     words::byte(model, RECORD_BYTES * i + k)
 }
+
+// The one-byte fields, each under its own name. What they share is `field`.
 
 // The state that record i is for.
 pub fn state(model: &[u8], i: usize) -> usize
@@ -68,6 +71,7 @@ pub fn under(model: &[u8], i: usize) -> usize
 }
 
 // The weight of record i.
+#[tactic(auto, unfolding(crate::specs::Records::weight))]
 pub fn weight(model: &[u8], i: usize) -> u64
     requires { HasRecord model.now i }
     ensures { (result ≡ weight model.now i) × (result < 2 ^ 32) }

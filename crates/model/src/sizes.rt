@@ -80,8 +80,8 @@ impl Sizes {
         ensures { SizesTo model.now (i + 1) result }
     {
         Sizes {
-            states: greater(self.states, state_named(model, i) + 1),
-            symbols: greater(self.symbols, symbol_named(model, i) + 1),
+            states: self.states.max(state_named(model, i) + 1),
+            symbols: self.symbols.max(symbol_named(model, i) + 1),
         }
     }
 }
@@ -97,6 +97,7 @@ pub fn no_records() -> Sizes
 }
 
 // How many whole records the file has.
+#[tactic(auto, unfolding(crate::specs::Records::records_of))]
 pub fn records(model: &[u8]) -> usize
     ensures { result ≡ records_of model.now }
 {
@@ -107,7 +108,7 @@ pub fn records(model: &[u8]) -> usize
 pub fn greater(a: usize, b: usize) -> usize
     ensures { result ≡ max a b }
 {
-    if a < b { b } else { a }
+    a.max(b)
 }
 
 // The greatest state that record i names.
@@ -115,7 +116,7 @@ fn state_named(model: &[u8], i: usize) -> usize
     requires { HasRecord model.now i }
     ensures { (result ≡ state_named model.now i) × (result < 65536) }
 {
-    greater(state(model, i), target(model, i))
+    state(model, i).max(target(model, i))
 }
 
 // The greatest symbol that record i names.
@@ -123,20 +124,16 @@ fn symbol_named(model: &[u8], i: usize) -> usize
     requires { HasRecord model.now i }
     ensures { (result ≡ symbol_named model.now i) × (result < 65536) }
 {
-    let pushed = greater(top(model, i), under(model, i));
-    greater(symbol(model, i), pushed)
+    symbol(model, i).max(top(model, i).max(under(model, i)))
 }
 
 // The sizes of any bytes: one more than the greatest state and the greatest symbol that a record names.
 pub fn sizes_of(model: &[u8]) -> Sizes
     ensures { (result ≡ sizes_of model.now) × (result.states ≤ 65536) × (result.symbols ≤ 65536) }
 {
-    let n = records(model);
     let mut sizes = no_records();
-    let mut i = 0;
-    while i < n {
+    for i in 0..records(model) {
         sizes = sizes.with_record(model, i);
-        i += 1;
     }
     sizes
 }
@@ -145,14 +142,12 @@ pub fn sizes_of(model: &[u8]) -> Sizes
 pub fn states(model: &[u8]) -> usize
     ensures { (result ≡ states_of model.now) × (result ≤ 65536) }
 {
-    let sizes = sizes_of(model);
-    sizes.states
+    sizes_of(model).states
 }
 
 // g: one more than the greatest symbol that a record names.
 pub fn symbols(model: &[u8]) -> usize
     ensures { (result ≡ symbols_of model.now) × (result ≤ 65536) }
 {
-    let sizes = sizes_of(model);
-    sizes.symbols
+    sizes_of(model).symbols
 }

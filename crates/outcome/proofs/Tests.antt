@@ -5,14 +5,14 @@ use native.Mathlib.Omega.{arith}
 use mathlib.Core.Bool.{Bool, true, false, false≢true}
 use mathlib.Core.List.{List, [], ◌∷◌, ◌++◌}
 use mathlib.Core.Logic.{◌↔◌}
-use mathlib.Core.Path.{◌≡◌, refl, sym, ap, ◌∙◌}
-use lib.IntN.{ℤ}
+use mathlib.Core.Path.{◌≡◌, refl, sym, ap, ◌∙◌, subst}
+use Rattle.std.specs.Prelude.{Ok, Err}
 use Rattle.walks.specs.Lists.{each}
 use Rattle.walks.proofs.Sums.{last_or_below}
 use Rattle.outcome.specs.declared.Reason.{Reason}
-use Rattle.outcome.specs.declared.Outcome.{Outcome}
-use Rattle.outcome.specs.declared.Outcome.TheVariants.{Accepted, Refused}
-use Rattle.outcome.specs.Tests.{Test, refusal, is_refused, first, Passed, FirstFailure}
+use Rattle.outcome.specs.declared.Refusal.{Refusal}
+use Rattle.outcome.specs.Outcomes.{Outcome, Accepted, is_refused}
+use Rattle.outcome.specs.Tests.{Test, refusal, first, Passed, FirstFailure}
 
 -- ---- one test in front
 
@@ -40,13 +40,13 @@ unfolding first
 first_empty = refl
 
 -- No refusal is an acceptance.
-pub refusal_not_accepted : (o : Outcome) {r : Reason} {i : ℕ} {k : ℤ} → o ≡ Accepted → o ≡ Refused r i k → ⊥
-refusal_not_accepted o a e = let z : ◌≡◌ {A = ℕ} 0 1 = cc in omega arith
+pub refusal_not_accepted : (o : Outcome) {why : Refusal} → o ≡ Accepted → o ≡ Err why → ⊥
+refusal_not_accepted o a e = cc
 
 -- What is not refused is accepted.
 pub not_refused : (o : Outcome) → is_refused o ≡ false → o ≡ Accepted
-not_refused Accepted e = refl
-not_refused (Refused r i k) e = absurd (false≢true (sym e))
+not_refused (Ok u) e = refl
+not_refused (Err why) e = absurd (false≢true (sym e))
 
 accepted_cons : (t : Test) (ts : List Test) → first (t ∷ ts) ≡ Accepted → (t.fails ≡ false) × (first ts ≡ Accepted)
 accepted_cons t ts e =
@@ -95,13 +95,12 @@ later t ts u f g =
     }
 
 -- Every refusal is that of the first test that fails.
-pub first_failure : (ts : List Test) (r : Reason) (i : ℕ) (k : ℤ) → first ts ≡ Refused r i k
-    → (t : Test) × (FirstFailure ts t × (refusal t ≡ Refused r i k))
-first_failure [] r i k e = absurd (refusal_not_accepted (first []) first_empty e)
-first_failure (t ∷ ts) r i k e =
+pub first_failure : (ts : List Test) (why : Refusal) → first ts ≡ Err why → (t : Test) × (FirstFailure ts t × (refusal t ≡ Err why))
+first_failure [] why e = absurd (refusal_not_accepted (first []) first_empty e)
+first_failure (t ∷ ts) why e =
     by_test t
     (λ f. (t, (record { before = []; after = ts; split = refl; passed = tt; fails = f }, sym (first_fails t ts f) ∙ e)))
-    (λ f. let (u, (g, q)) = first_failure ts r i k (sym (first_passes t ts f) ∙ e) in (u, (later t ts u f g, q)))
+    (λ f. let (u, (g, q)) = first_failure ts why (sym (first_passes t ts f) ∙ e) in (u, (later t ts u f g, q)))
 
 -- ---- the tests of 0, 1, …, n − 1
 
@@ -128,12 +127,12 @@ each_hit h (suc n) i l e x =
     (λ b. let p = each_hit h n i b e x in first_stands (each n h) (h n) (λ a. x (sym p ∙ a)) ∙ p)
 
 -- A loop that finds a refusal o at i, after all before it have passed, has found the outcome.
-pub each_refused : (h : ℕ → List Test) (n i : ℕ) (o : Outcome) {r : Reason} {j : ℕ} {k : ℤ} → i < n → first (each i h) ≡ Accepted
-    → o ≡ first (h i) → o ≡ Refused r j k → o ≡ first (each n h)
+pub each_refused : (h : ℕ → List Test) (n i : ℕ) (o : Outcome) {why : Refusal} → i < n → first (each i h) ≡ Accepted
+    → o ≡ first (h i) → o ≡ Err why → o ≡ first (each n h)
 each_refused h n i o l a e f = e ∙ sym (each_hit h n i l a (λ b. refusal_not_accepted o (e ∙ b) f))
 
 -- The same for two lists of tests one after the other.
-pub first_refused : (xs ys : List Test) (o : Outcome) {r : Reason} {j : ℕ} {k : ℤ} → o ≡ first xs → o ≡ Refused r j k
+pub first_refused : (xs ys : List Test) (o : Outcome) {why : Refusal} → o ≡ first xs → o ≡ Err why
     → o ≡ first (xs ++ ys)
 first_refused xs ys o e f = e ∙ sym (first_stands xs ys (λ b. refusal_not_accepted o (e ∙ b) f))
 
@@ -169,32 +168,31 @@ passed_each (suc n) h = (
 
 -- Where the tests refuse, P holds of the reason and the place.
 pub record Refusals (P : Reason → ℕ → Type 0) (ts : List Test) : Type 0 where
-  pub refused : (r : Reason) (i : ℕ) (k : ℤ) → first ts ≡ Refused r i k → P r i
+  pub refused : (why : Refusal) → first ts ≡ Err why → P why.reason why.place
 
 module _ {P : Reason → ℕ → Type 0} where
   pub refusals_none : Refusals P []
-  refusals_none = record { refused = λ r i k e. absurd (refusal_not_accepted (first []) first_empty e) }
+  refusals_none = record { refused = λ why e. absurd (refusal_not_accepted (first []) first_empty e) }
 
   pub refusals_cons : {t : Test} {ts : List Test} → P t.reason t.place → (t.fails ≡ false → Refusals P ts) → Refusals P (t ∷ ts)
   refusals_cons {t} {ts} h rest =
       record {
-        refused = λ r i k e. by_test t
+        refused = λ why e. by_test t
             (λ f.
-            let named : refusal t ≡ Refused r i k = sym (first_fails t ts f) ∙ e in
-            let reason : t.reason ≡ r = cc in
-            let place : t.place ≡ i = cc in
-            rw (← reason, ← place) h)
-            (λ f. (rest f).refused r i k (sym (first_passes t ts f) ∙ e));
+            let named : refusal t ≡ Err why = sym (first_fails t ts f) ∙ e in
+            let same : record { reason = t.reason; place = t.place; shortfall = t.shortfall } ≡ why = cc in
+            subst (λ w. P w.reason w.place) same h)
+            (λ f. (rest f).refused why (sym (first_passes t ts f) ∙ e));
       }
 
   -- Of two lists the second refuses only where the first has passed.
   pub refusals_append : {xs ys : List Test} → Refusals P xs → (first xs ≡ Accepted → Refusals P ys) → Refusals P (xs ++ ys)
-  refusals_append {xs} {ys} f g = record { refused = λ r i k e. go r i k e (first xs) refl }
+  refusals_append {xs} {ys} f g = record { refused = λ why e. go why e (first xs) refl }
     where
-      go : (r : Reason) (i : ℕ) (k : ℤ) → first (xs ++ ys) ≡ Refused r i k → (o : Outcome) → first xs ≡ o → P r i
-      go r i k e Accepted q = (g q).refused r i k (sym (first_after xs ys q) ∙ e)
-      go r i k e (Refused r' i' k') q =
-          f.refused r i k (sym (first_stands xs ys (λ a. refusal_not_accepted (first xs) a q)) ∙ e)
+      go : (why : Refusal) → first (xs ++ ys) ≡ Err why → (o : Outcome) → first xs ≡ o → P why.reason why.place
+      go why e (Ok u) q = (g q).refused why (sym (first_after xs ys q) ∙ e)
+      go why e (Err before) q =
+          f.refused why (sym (first_stands xs ys (λ a. refusal_not_accepted (first xs) a q)) ∙ e)
 
   pub refusals_each : (m : ℕ) {h : ℕ → List Test} → ((i : ℕ) → i < m → Refusals P (h i)) → Refusals P (each m h)
   unfolding each
@@ -203,4 +201,4 @@ module _ {P : Reason → ℕ → Type 0} where
 
 -- What follows from P holds of every refusal too.
 pub refusals_weaken : {P Q : Reason → ℕ → Type 0} {ts : List Test} → ((r : Reason) (i : ℕ) → P r i → Q r i) → Refusals P ts → Refusals Q ts
-refusals_weaken w f = record { refused = λ r i k e. w r i (f.refused r i k e) }
+refusals_weaken w f = record { refused = λ why e. w why.reason why.place (f.refused why e) }

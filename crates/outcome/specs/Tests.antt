@@ -2,11 +2,9 @@
 -- order").
 use Rattle.std.specs.Prelude.{ℕ, Bool, true, false, cond, List, [], ◌∷◌, ◌++◌, ◌≡◌, ℤ, pos}
 use Rattle.outcome.specs.declared.Reason.{Reason}
-use Rattle.outcome.specs.declared.Outcome.{Outcome}
-use Rattle.outcome.specs.declared.Outcome.TheVariants.{Accepted, Refused}
+use Rattle.outcome.specs.Outcomes.{Outcome, Accepted, Refused}
 
--- One test: whether it fails, and the reason, the place and the shortfall to give if it does. "Place" is document 01's term for where a file
--- fails: a record's or a row's number. "Shortfall" is its term for how far a failed inequality misses.
+-- One test: whether it fails, and the reason, the place and the shortfall to give if it does.
 pub record Test : Type 0 where
   pub fails : Bool
   pub reason : Reason
@@ -20,11 +18,6 @@ plain t r i = record { fails = t; reason = r; place = i; shortfall = pos 0 }
 -- The answer of a test that fails.
 abbrev pub refusal : Test → Outcome
 refusal t = Refused t.reason t.place t.shortfall
-
--- Whether an outcome is a refusal.
-abbrev pub is_refused : Outcome → Bool
-is_refused Accepted = false
-is_refused (Refused r i k) = true
 
 -- The outcome of a list of tests: the first that fails.
 unfoldable pub first : List Test → Outcome

@@ -7,7 +7,6 @@ use lib.IntN.{ℤ}
 use lib.ListN.{length}
 use borrow.Author.Tests.{lt-ltb, le-leb, lt-leb, ne_eqb}
 use Rattle.outcome.specs.declared.Reason.{Reason}
-use Rattle.outcome.specs.declared.Outcome.TheVariants.{Refused}
 use Rattle.outcome.specs.Reasons.{number_of}
 use Rattle.model.specs.Format as model
 use Rattle.delivery.specs.Format as delivery
@@ -17,6 +16,7 @@ use Rattle.wellformed.proofs.Places.{model_record_lem}
 use Rattle.verdict.specs.Verdict.{verdict}
 use Rattle.verdict.proofs.Places.{rule_record_lem, bound_record}
 use Rattle.parts.specs.Parts.{bytes_from, nothing, is_whole, record_part, names_rule, names_bound, names_model, in_model, in_delivery, offending_part}
+use Rattle.outcome.specs.Outcomes.{Refused}
 
 -- The part for a number and a whole record.
 module _ (n i : ℕ) (b d : List ℕ) where

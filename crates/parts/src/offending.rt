@@ -5,6 +5,8 @@ ghost use Rattle.parts.specs.Parts.{names_rule, names_bound, names_model, offend
 
 use super::record::{Kind, is_whole, record_at};
 
+// A number and no reason: the answer is promised for every number.
+
 // Whether the reason's place is a record of the model.
 fn names_rule(number: u32) -> bool
     ensures { result ≡ names_rule number }

@@ -1,7 +1,6 @@
 -- What questions on short runs need of a held model.
 use Rattle.std.specs.Prelude.{ℕ, ◌+◌, ◌<◌, Bool, true, false, List, ◌≡◌, take}
 use Rattle.std.proofs.Math.ListN as ListN
-use Rattle.outcome.specs.Tests.{is_refused}
 use Rattle.calls.specs.declared.Question.{Question}
 use Rattle.calls.specs.declared.Question.TheVariants as Asks
 use Rattle.model.specs.declared.sizes.Sizes.{Sizes}
@@ -10,6 +9,7 @@ use Rattle.model.specs.Sizes.{sizes_of}
 use Rattle.wellformed.specs.Verdict.{model_verdict}
 use Rattle.rows.specs.Clauses.{Indexed}
 use Rattle.held.specs.Held.{holds_model}
+use Rattle.outcome.specs.Outcomes.{is_refused}
 
 -- Whether a question is on a short run.
 abbrev pub is_short : Question → Bool

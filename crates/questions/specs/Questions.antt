@@ -1,19 +1,19 @@
 -- The questions, answered from what is held (document 01, "Filing and questions" and "Reasons found in the register"; request A.1).
 use Rattle.std.specs.Prelude.{ℕ, true, cond, ◌&&◌, List, [], take, get_or}
 use Rattle.outcome.specs.declared.Reason.TheVariants.{TooManySteps}
-use Rattle.outcome.specs.Tests.{is_refused}
 use Rattle.ppda.specs.Chances.{chance}
 use Rattle.model.specs.Records.{states_of, symbols_of}
 use Rattle.model.specs.Rules.{rules_of}
 use Rattle.wellformed.specs.Verdict.{model_verdict}
 use Rattle.calls.specs.declared.Question.{Question}
 use Rattle.calls.specs.declared.Question.TheVariants as Asks
-use Rattle.calls.specs.declared.Answer.{Answer}
+use Rattle.calls.specs.Answers.{Answer}
 use Rattle.calls.specs.Answers.{answered_or, answered}
 use Rattle.held.specs.Held.{holds_model, is_held, lowers_stand, means_stand}
 use Rattle.held.specs.Places.{has_row, has_entry, row_value, entry_value, exit_value}
 use Rattle.shortruns.specs.Short.{few_steps}
 use Rattle.questions.specs.declared.Shown.{Shown}
+use Rattle.outcome.specs.Outcomes.{is_refused}
 
 -- An entry's upper, its lower, a row's mean steps, the margin, and an entry's live mark, which needs a model only; the numbers by the list l, of uppers and lowers
 -- by exit (request A.6), of mean steps and marks in file order.

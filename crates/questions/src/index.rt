@@ -7,7 +7,6 @@ ghost use Rattle.questions.specs.Clauses.{none, RowsOf, Indexes, IfNeeded, Kept}
 use held::holds_model;
 use model::format::MOST_BYTES;
 use model::sizes::{Sizes, sizes_of};
-use outcome::is_refused;
 use rows::{STARTS, find_starts};
 
 // No sizes: those of bytes that are no model, and of a model whose index has not been found.
@@ -26,7 +25,7 @@ fn find_in(bytes: &[u8], count: usize, starts: &mut [u16; STARTS]) -> Sizes
     ensures { RowsOf (take count bytes.now) result starts.new × (length starts.new ≡ most_rows + 1) }
 {
     let model = &bytes[..count];
-    if is_refused(wellformed::check(model)) {
+    if wellformed::check(model).is_err() {
         return none();
     }
     let sizes = sizes_of(model);
@@ -35,6 +34,7 @@ fn find_in(bytes: &[u8], count: usize, starts: &mut [u16; STARTS]) -> Sizes
 }
 
 // Finds the index of the model that is held in the first bytes.
+#[tactic(auto, using(held::proofs::Becomes::held_fits))]
 pub fn find(bytes: &[u8; MOST_BYTES], count: usize, starts: &mut [u16; STARTS]) -> Sizes
     requires { length starts.old ≡ most_rows + 1 }
     ensures { Indexes count result bytes.now starts.new × (length starts.new ≡ most_rows + 1) }
@@ -56,10 +56,7 @@ pub fn find_if(
     requires { Kept count sizes bytes.now starts.old }
     ensures { IfNeeded needed count result bytes.now starts.new × Kept count result bytes.now starts.new }
 {
-    if !needed {
-        return sizes;
-    }
-    if 0 < sizes.states {
+    if !needed || 0 < sizes.states {
         return sizes;
     }
     find(bytes, count, starts)

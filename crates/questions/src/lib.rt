@@ -2,8 +2,9 @@
 #![tactic(auto)]
 
 use calls::{Answer, Question, answered, answered_or};
+use delivery::shape::Shape;
 use held::places::{entry_value, exit_value, has_entry, has_row, row_value, sizes_held};
-use held::{HeldDelivery, holds_model, is_held, lowers_stand, means_stand};
+use held::{holds_model, is_held, lowers_stand, means_stand};
 use model::format::{MOST_BYTES, MOST_ENTRIES};
 use model::sizes::Sizes;
 use outcome::Reason;
@@ -15,6 +16,8 @@ pub mod index; // index.rt: what is found once of a held model
 pub mod short; // short.rt: the chance of a very short run
 
 ghost use Rattle.std.specs.Prelude.{◌≡◌};
+ghost use Rattle.calls.specs.Answers.{answered};
+ghost use Rattle.held.specs.Held.{holds_model, is_held};
 ghost use Rattle.questions.specs.Questions.{upper_answer, lower_answer, mean_answer, margin_answer, live_answer, within_answer, answer_from};
 ghost use Rattle.questions.specs.Clauses.{is_short, Indexes, IfNeeded};
 
@@ -24,7 +27,7 @@ pub struct Shown {
     pub length: usize,
     pub states: u8,
     pub symbols: u16,
-    pub delivery: HeldDelivery,
+    pub delivery: Option<Shape>,
     pub margin: u64,
 }
 
@@ -46,21 +49,26 @@ pub struct View {
     pub bytes: [u8; MOST_BYTES],
 }
 
+// The answer to a question on the held delivery, by whether the place is the model's and whether the block stands, and its number there.
+fn of_delivery(held: Shown, inside: bool, block: bool, value: u64) -> Answer
+    ensures { result ≡ answered (holds_model held.length) (is_held held.delivery) inside block value }
+{
+    answered(
+        holds_model(held.length),
+        is_held(held.delivery),
+        inside,
+        block,
+        value,
+    )
+}
+
 // The upper of an entry.
 pub fn upper(held: Shown, uppers: &[u32; MOST_ENTRIES], p: usize, z: usize, q: usize) -> Answer
     ensures { result ≡ upper_answer held uppers.now p z q }
 {
     let n = sizes_held(held.states, held.symbols);
     let value = exit_value(uppers, n, p, z, q);
-    let length = held.length;
-    let delivery = held.delivery;
-    answered(
-        holds_model(length),
-        is_held(delivery),
-        has_entry(n, p, z, q),
-        true,
-        value,
-    )
+    of_delivery(held, has_entry(n, p, z, q), true, value)
 }
 
 // The lower of an entry.
@@ -68,16 +76,9 @@ pub fn lower(held: Shown, lowers: &[u32; MOST_ENTRIES], p: usize, z: usize, q: u
     ensures { result ≡ lower_answer held lowers.now p z q }
 {
     let n = sizes_held(held.states, held.symbols);
+    let stand = lowers_stand(held.delivery);
     let value = exit_value(lowers, n, p, z, q);
-    let length = held.length;
-    let delivery = held.delivery;
-    answered(
-        holds_model(length),
-        is_held(delivery),
-        has_entry(n, p, z, q),
-        lowers_stand(delivery),
-        value,
-    )
+    of_delivery(held, has_entry(n, p, z, q), stand, value)
 }
 
 // The mean steps of a row.
@@ -85,32 +86,16 @@ pub fn mean_steps(held: Shown, means: &[u32; MOST_ENTRIES], p: usize, z: usize) 
     ensures { result ≡ mean_answer held means.now p z }
 {
     let n = sizes_held(held.states, held.symbols);
+    let stand = means_stand(held.delivery);
     let value = row_value(means, n, p, z);
-    let length = held.length;
-    let delivery = held.delivery;
-    answered(
-        holds_model(length),
-        is_held(delivery),
-        has_row(n, p, z),
-        means_stand(delivery),
-        value,
-    )
+    of_delivery(held, has_row(n, p, z), stand, value)
 }
 
 // The margin.
 pub fn margin(held: Shown) -> Answer
     ensures { result ≡ margin_answer held }
 {
-    let length = held.length;
-    let delivery = held.delivery;
-    let value = held.margin;
-    answered(
-        holds_model(length),
-        is_held(delivery),
-        true,
-        lowers_stand(delivery),
-        value,
-    )
+    of_delivery(held, true, lowers_stand(held.delivery), held.margin)
 }
 
 // The live mark of an entry, which needs a model only.
@@ -119,9 +104,8 @@ pub fn live(held: Shown, marks: &[u32; MOST_ENTRIES], p: usize, z: usize, q: usi
 {
     let n = sizes_held(held.states, held.symbols);
     let value = entry_value(marks, n, p, z, q);
-    let length = held.length;
     answered(
-        holds_model(length),
+        holds_model(held.length),
         true,
         has_entry(n, p, z, q),
         true,
@@ -130,6 +114,7 @@ pub fn live(held: Shown, marks: &[u32; MOST_ENTRIES], p: usize, z: usize, q: usi
 }
 
 // The chance of an entry within so many steps, which needs a model only, by the model's bytes and their index. It is worked out only where it is shown.
+#[tactic(auto, using(held::proofs::Becomes::held_fits))]
 pub fn within(
     held: Shown,
     sizes: Sizes,
@@ -141,14 +126,14 @@ pub fn within(
     ensures { result ≡ within_answer held bytes.now asked.steps asked.p asked.z asked.q }
 {
     let n = sizes_held(held.states, held.symbols);
-    let length = held.length;
-    let model = holds_model(length);
+    let model = holds_model(held.length);
     let inside = has_entry(n, asked.p, asked.z, asked.q);
     let few = few_steps(asked.steps);
-    if !(model & (inside & few)) {
-        return answered_or(model, true, inside, few, Reason::TooManySteps, 0);
-    }
-    let value = short_chance(bytes, length, sizes, starts, asked);
+    let value = if model && inside && few {
+        short_chance(bytes, held.length, sizes, starts, asked)
+    } else {
+        0
+    };
     answered_or(model, true, inside, few, Reason::TooManySteps, value)
 }
 
@@ -156,23 +141,16 @@ pub fn within(
 pub fn is_short(question: Question) -> bool
     ensures { result ≡ is_short question }
 {
-    match question {
-        Question::Upper { .. } => false,
-        Question::Lower { .. } => false,
-        Question::MeanSteps { .. } => false,
-        Question::Margin => false,
-        Question::Live { .. } => false,
-        Question::Within { .. } => true,
-    }
+    matches!(question, Question::Within { .. })
 }
 
 // Any question, from what is held, the model's bytes with their index, and the lists of numbers.
-pub fn answer<'a>(
+pub fn answer(
     held: Shown,
     sizes: Sizes,
-    bytes: &'a [u8; MOST_BYTES],
-    starts: &'a [u16; STARTS],
-    lists: &'a [[u32; MOST_ENTRIES]; LISTS],
+    bytes: &[u8; MOST_BYTES],
+    starts: &[u16; STARTS],
+    lists: &[[u32; MOST_ENTRIES]; LISTS],
     question: Question,
 ) -> Answer
     requires { IfNeeded (is_short question) held.length sizes bytes.now starts.now }

@@ -20,6 +20,7 @@ pub struct ShortRun {
 }
 
 // The chance of the entry within so many steps, over 65,536 to their number: 0 where the bytes are no model or have no such entry, or the steps are more than may be asked for.
+#[tactic(auto, using(held::proofs::Bounds::entry_exactly, crate::proofs::ShortChances::few_exactly))]
 pub(crate) fn short_chance(
     bytes: &[u8],
     count: usize,
@@ -30,13 +31,9 @@ pub(crate) fn short_chance(
     requires { (count ≤ length bytes.now) × RowsOf (take count bytes.now) n starts.now }
     ensures { result ≡ short_chance (take count bytes.now) asked.steps asked.p asked.z asked.q }
 {
-    let steps = asked.steps;
-    let p = asked.p;
-    let z = asked.z;
-    let q = asked.q;
-    if !(has_entry(n, p, z, q) & few_steps(steps)) {
+    let ShortRun { steps, p, z, q } = asked;
+    if !has_entry(n, p, z, q) || !few_steps(steps) {
         return 0;
     }
-    let model = &bytes[..count];
-    chance(model, starts, n, steps, n.row(p, z), q)
+    chance(&bytes[..count], starts, n, steps, n.row(p, z), q)
 }

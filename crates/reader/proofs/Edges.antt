@@ -9,7 +9,6 @@ use Rattle.walks.specs.Lists.{list_to, each}
 use Rattle.walks.specs.Sums.{sign, sum, sum_to, least_to, all_to, greatest_to}
 use Rattle.walks.specs.Order.{each_entry, each_row}
 use Rattle.words.specs.Words.{word_at}
-use Rattle.outcome.specs.declared.Outcome.TheVariants.{Accepted, Refused}
 use Rattle.outcome.specs.declared.Reason.TheVariants.{UpperTooSmall}
 use Rattle.outcome.specs.Tests.{first}
 use Rattle.ppda.specs.Rules.{fits, over_row}
@@ -43,6 +42,7 @@ use Rattle.reader.specs.Reader.{LineIn}
 use Rattle.reader.specs.Edges.{w_printout, uppers_printout, refused_printout}
 use Rattle.reader.proofs.Filed.{both, refused_plainly, printed_plainly}
 use Rattle.reader.proofs.Reader.{reader}
+use Rattle.outcome.specs.Outcomes.{Accepted, Refused}
 
 -- ---- computed
 

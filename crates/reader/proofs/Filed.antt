@@ -5,7 +5,6 @@ use mathlib.Core.Option.{some}
 use mathlib.Core.Path.{◌≡◌, ap, fun_ext, ◌∙◌}
 use lib.IntN.{ℤ}
 use Rattle.outcome.specs.declared.Reason.{Reason}
-use Rattle.outcome.specs.declared.Outcome.TheVariants.{Accepted, Refused}
 use Rattle.outcome.specs.Reasons.{number_of}
 use Rattle.wellformed.specs.Verdict.{model_verdict}
 use Rattle.wellformed.proofs.Accepted.{model_accepted}
@@ -17,6 +16,9 @@ use Rattle.history.specs.Run.{reply_to, history}
 use Rattle.history.proofs.Plain.{as_plain_pair}
 use Rattle.lines.specs.Lines.{refused_line}
 use Rattle.report.specs.Printed.{accepted_lines, printed}
+use Rattle.outcome.specs.Outcomes.{Accepted, Refused}
+use Rattle.std.specs.Prelude.{Err}
+use Rattle.outcome.specs.declared.Refusal.{Refusal}
 
 -- The pair of the two files.
 abbrev pub both : List ℕ → List ℕ → Pair
@@ -36,8 +38,8 @@ module _ (b d : List ℕ) where
   delivery_reply_lem is = as_plain_pair (file_model b ∷ []) (file_delivery d) ∙ rw (model_reply_lem, is)
 
   -- A refusal of the delivery prints its line.
-  pub refused_plainly : model_verdict b ≡ Accepted → {x : Reason} {i : ℕ} {k : ℤ} → verdict b d ≡ Refused x i k
-      → printed b d ≡ refused_line (number_of x) i k
+  pub refused_plainly : model_verdict b ≡ Accepted → {why : Refusal} → verdict b d ≡ Err why
+      → printed b d ≡ refused_line (number_of why.reason) why.place why.shortfall
   unfolding printed
   refused_plainly m v = rw (model_reply_lem, m, delivery_reply_lem m, v)
 

@@ -10,8 +10,6 @@ use borrow.Author.Tests.{lt-ltb}
 use Rattle.walks.specs.Sums.{In}
 use Rattle.walks.specs.Order.{rows_in, AtRows}
 use Rattle.walks.proofs.Places.{row_of_lem}
-use Rattle.outcome.specs.declared.Outcome.{Outcome}
-use Rattle.outcome.specs.declared.Outcome.TheVariants.{Accepted, Refused}
 use Rattle.outcome.specs.Reasons.{number_of}
 use Rattle.ppda.specs.Bounds.{UpperHolds, LowerHolds, MeanHolds, TailHolds}
 use Rattle.ppda.proofs.Margin.{margin_le_top}
@@ -41,6 +39,8 @@ use Rattle.report.specs.Printed.{accepted_lines, printed}
 use Rattle.reader.specs.Reader.{LineIn, ChanceRead, Reader}
 use Rattle.reader.proofs.Filed.{asked, model_reply_lem, delivery_reply_lem, replied}
 use Rattle.reader.proofs.Words.{Found, of_table, of_margin, of_chance, of_steps, of_nothing, found}
+use Rattle.outcome.specs.Outcomes.{Outcome, Accepted, Refused}
+use Rattle.std.specs.Prelude.{Err, Ok}
 
 -- ---- lines of accepted files
 
@@ -67,9 +67,9 @@ module _ (b d : List ℕ) where
 
       go : (o : Outcome) → model_verdict b ≡ o → (a : Outcome) → verdict b d ≡ a → LineIn b d (w ∷ ws)
           → (verdict b d ≡ Accepted) × In (w ∷ ws) (words_in (accepted_lines (asked b d) b d))
-      go Accepted m Accepted v i = (v, rw (model_reply_lem b d, m, delivery_reply_lem b d m, v) at i)
-      go Accepted m (Refused x j k) v i = absurd (not_refused (number_of x) j k (rw (model_reply_lem b d, m, delivery_reply_lem b d m, v) at i))
-      go (Refused x j k) m a v i = absurd (not_refused (number_of x) j k (rw (model_reply_lem b d, m) at i))
+      go (Ok u) m (Ok v') v i = (v, rw (model_reply_lem b d, m, delivery_reply_lem b d m, v) at i)
+      go (Ok u) m (Err why) v i = absurd (not_refused (number_of why.reason) why.place why.shortfall (rw (model_reply_lem b d, m, delivery_reply_lem b d m, v) at i))
+      go (Err why) m a v i = absurd (not_refused (number_of why.reason) why.place why.shortfall (rw (model_reply_lem b d, m) at i))
 
   module _ (is : verdict b d ≡ Accepted) (right : RightFiles b d) where
     -- The reply for a block that the shape may have.

@@ -1,7 +1,5 @@
 -- Merging the held delivery with a second one, on any value of a register (request A.5).
-use Rattle.std.specs.Prelude.{ℕ, Bool, List}
-use Rattle.outcome.specs.declared.Outcome.{Outcome}
-use Rattle.outcome.specs.declared.Outcome.TheVariants.{Accepted, Refused}
+use Rattle.std.specs.Prelude.{ℕ, Bool, List, Err, Ok}
 use Rattle.delivery.specs.declared.shape.Shape.{Shape}
 use Rattle.delivery.specs.Merged.{merged_shape}
 use Rattle.held.specs.Held.{is_held, shape_held, numbers_held}
@@ -10,6 +8,7 @@ use Rattle.filing.specs.Outcomes.{file_of, merge_outcome}
 use Rattle.register.specs.declared.Register.{Register}
 use Rattle.register.specs.declared.Received.{Received}
 use Rattle.register.specs.Filing.{turned_away, shape_for, holding_numbers}
+use Rattle.outcome.specs.Outcomes.{Outcome}
 
 -- Whether a delivery is held: where a model is held and none is, merging is refused by 42.
 unfoldable pub has_delivery : Register → Bool
@@ -23,8 +22,8 @@ joined r b k d =
 
 -- Merging with the delivery d for the held model b, by the outcome.
 abbrev pub merge_by : Outcome → Register → List ℕ → List ℕ → Received
-merge_by Accepted r b d = joined r b (shape_for b d) d
-merge_by (Refused x i k) r b d = turned_away r (Refused x i k)
+merge_by (Ok u) r b d = joined r b (shape_for b d) d
+merge_by (Err why) r b d = turned_away r (Err why)
 
 unfoldable pub merge_delivery : Register → List ℕ → Received
 merge_delivery r d = merge_by (merge_outcome r.model r.delivery d) r (file_of r.model) d

@@ -1,6 +1,6 @@
 -- The questions, answered by a register (document 01, "Filing and questions" and "Reasons found in the register"; request A.1).
 use Rattle.std.specs.Prelude.{ℕ, Bool, List, [], ◌∷◌}
-use Rattle.calls.specs.declared.Answer.{Answer}
+use Rattle.calls.specs.Answers.{Answer}
 use Rattle.register.specs.declared.Register.{Register}
 use Rattle.held.specs.Held.{holds_model}
 use Rattle.questions.specs.declared.Shown.{Shown}

@@ -1,21 +1,21 @@
 // The register, a value: it holds at most one model and one delivery, takes filings and answers questions. A refused call leaves it as it is.
 #![tactic(auto)]
 
-ghost use Rattle.std.specs.Prelude.{◌≡◌};
-ghost use Rattle.register.specs.Filing.{cleared, turned_down, file_model, turned_away, file_delivery};
+ghost use Rattle.std.specs.Prelude.{◌≡◌, Err};
+ghost use Rattle.model.specs.Clauses.{Fits};
+ghost use Rattle.register.specs.Filing.{cleared, file_model, turned_away, holding_sized, file_delivery};
 ghost use Rattle.register.specs.Merging.{has_delivery, merge_delivery};
 ghost use Rattle.register.specs.Questions.{has_model, shown_of, lists_of, view_of, upper_in, lower_in, mean_in, margin_in, live_in, within_in};
 
-use calls::{Answer, Mark};
+use calls::{Answer, Receipt};
+use delivery::shape::Shape;
 use filing::{delivery_outcome, mark_by, merge_outcome, model_outcome};
 use held::filing::{model_of, numbers_of, shape_for};
-use held::{
-    HeldDelivery, HeldModel, Numbers, holds_model, is_held, no_model, no_numbers, shape_held,
-};
+use held::{HeldModel, Numbers, holds_model, is_held, no_model, no_numbers, shape_held};
 use merging::{merged_numbers, merged_shape};
 use model::format::MOST_ENTRIES;
-use model::sizes::sizes_of;
-use outcome::{Outcome, is_refused};
+use model::sizes::{Sizes, sizes_of};
+use outcome::{Outcome, Refusal};
 use questions::short::ShortRun;
 use questions::{LISTS, Shown, View, index};
 use rows::STARTS;
@@ -24,7 +24,7 @@ use rows::STARTS;
 #[derive(Clone, Copy)]
 pub struct Register {
     model: HeldModel,
-    delivery: HeldDelivery,
+    delivery: Option<Shape>,
     numbers: Numbers,
 }
 
@@ -35,40 +35,32 @@ pub struct Filed {
     pub outcome: Outcome,
 }
 
-// What filing a delivery gives: the register after it, the outcome, and the mark of an accepted delivery.
+// What filing a delivery gives, or merging one: the register after it, and the mark of an accepted delivery.
 #[derive(Clone, Copy)]
 pub struct Received {
     pub register: Register,
-    pub outcome: Outcome,
-    pub mark: Mark,
+    pub receipt: Receipt,
 }
 
-// A refused model leaves the register as it is.
-fn model_refused(register: Register, outcome: Outcome) -> Filed
-    ensures { result ≡ turned_down register outcome }
-{
-    Filed { register, outcome }
-}
-
-// So does a refused delivery, filed or merged, which gets no mark.
-fn delivery_refused(kept: Register, outcome: Outcome) -> Received
-    ensures { result ≡ turned_away kept outcome }
+// A refused delivery, filed or merged, leaves the register as it is.
+fn delivery_refused(register: Register, why: Refusal) -> Received
+    ensures { result ≡ turned_away register (Err why) }
 {
     Received {
-        register: kept,
-        outcome,
-        mark: Mark::Absent,
+        register,
+        receipt: Err(why),
     }
 }
 
 impl Register {
     // A register that holds nothing.
+    #[tactic(auto, unfolding(crate::specs::Filing::cleared))]
     pub fn empty() -> Register
         ensures { result ≡ cleared }
     {
         Register {
             model: no_model(),
-            delivery: HeldDelivery::Nothing,
+            delivery: None,
             numbers: no_numbers(),
         }
     }
@@ -80,143 +72,129 @@ impl Register {
         Register::empty()
     }
 
-    // Files a model.
+    // Files a model. A refused one leaves the register as it is.
+    #[tactic(auto, using(filing::proofs::Outcomes::model_passed), unfolding(crate::specs::Filing::file_model, crate::specs::Filing::with_model))]
     pub fn file_model(self, file: &[u8]) -> Filed
         ensures { result ≡ file_model self file.now }
     {
-        let outcome = model_outcome(self.model.length, file);
-        if is_refused(outcome) {
-            return model_refused(self, outcome);
+        if let Err(why) = model_outcome(self.model.length, file) {
+            return Filed {
+                register: self,
+                outcome: Err(why),
+            };
         }
         Filed {
             register: Register {
                 model: model_of(file),
-                delivery: HeldDelivery::Nothing,
+                delivery: None,
                 numbers: no_numbers(),
             },
-            outcome,
+            outcome: Ok(()),
+        }
+    }
+
+    // The register with an accepted delivery's shape and numbers for its model, and the mark, by what is held.
+    fn holding(self, n: Sizes, shape: Shape, numbers: Numbers) -> Received
+        requires { Fits n.states n.symbols }
+        ensures { result ≡ holding_sized self n.states n.symbols shape numbers }
+    {
+        let mark = mark_by(n, self.delivery, self.numbers, shape, numbers);
+        Received {
+            register: Register {
+                model: self.model,
+                delivery: Some(shape),
+                numbers,
+            },
+            receipt: Ok(mark),
         }
     }
 
     // Files a delivery for the held model.
+    #[tactic(auto, using(held::proofs::Becomes::held_fits), unfolding(filing::specs::Outcomes::delivery_outcome, crate::specs::Filing::file_delivery, crate::specs::Filing::shape_for, filing::specs::Outcomes::file_of))]
     pub fn file_delivery(self, file: &[u8]) -> Received
         ensures { result ≡ file_delivery self file.now }
     {
-        let held = self.model;
-        let delivery = self.delivery;
-        let former = self.numbers;
-        let found = delivery_outcome(held, file);
-        if is_refused(found) {
-            return delivery_refused(self, found);
+        if let Err(why) = delivery_outcome(self.model, file) {
+            return delivery_refused(self, why);
         }
-        let length = held.length;
-        let bytes = held.bytes;
-        let model = &bytes[..length];
+        let model = &self.model.bytes[..self.model.length];
         let n = sizes_of(model);
         let shape = shape_for(file, n);
         let numbers = numbers_of(model, file, n, shape);
-        let mark = mark_by(n, delivery, former, shape, numbers);
-        Received {
-            register: Register {
-                model: held,
-                delivery: HeldDelivery::Of(shape),
-                numbers,
-            },
-            outcome: found,
-            mark,
-        }
+        self.holding(n, shape, numbers)
     }
 
     // Merges the held delivery with a second one for the held model. The mark compares what is made with the delivery that was held.
+    #[tactic(auto, using(filing::proofs::Outcomes::merge_passed, held::proofs::Becomes::held_fits), unfolding(crate::specs::Merging::merge_delivery, crate::specs::Filing::shape_for, filing::specs::Outcomes::file_of))]
     pub fn merge_delivery(self, file: &[u8]) -> Received
         ensures { result ≡ merge_delivery self file.now }
     {
-        let held = self.model;
-        let delivery = self.delivery;
-        let before = self.numbers;
-        let outcome = merge_outcome(held, delivery, file);
-        if is_refused(outcome) {
-            return delivery_refused(self, outcome);
+        if let Err(why) = merge_outcome(self.model, self.delivery, file) {
+            return delivery_refused(self, why);
         }
-        let length = held.length;
-        let bytes = held.bytes;
-        let model = &bytes[..length];
+        let model = &self.model.bytes[..self.model.length];
         let n = sizes_of(model);
-        let first = shape_held(delivery);
+        let first = shape_held(self.delivery);
         let second = shape_for(file, n);
-        let shape = merged_shape(first, second);
-        let merged = merged_numbers(model, n, first, before, second, file);
-        let mark = mark_by(n, delivery, before, shape, merged);
-        Received {
-            register: Register {
-                model: held,
-                delivery: HeldDelivery::Of(shape),
-                numbers: merged,
-            },
-            outcome,
-            mark,
-        }
+        let merged = merged_numbers(model, n, first, self.numbers, second, file);
+        self.holding(n, merged_shape(first, second), merged)
     }
 
     // Whether a model is held, on which the register's own reasons for a filing go.
+    #[tactic(auto, unfolding(crate::specs::Questions::has_model))]
     pub fn has_model(self) -> bool
         ensures { result ≡ has_model self }
     {
-        let length = self.model.length;
-        holds_model(length)
+        holds_model(self.model.length)
     }
 
     // Whether a delivery is held, on which a merge goes too.
+    #[tactic(auto, unfolding(crate::specs::Merging::has_delivery))]
     pub fn has_delivery(self) -> bool
         ensures { result ≡ has_delivery self }
     {
-        let delivery = self.delivery;
-        is_held(delivery)
+        is_held(self.delivery)
     }
 
     // What is held but for the lists of numbers.
     fn shown(self) -> Shown
         ensures { result ≡ shown_of self }
     {
-        let length = self.model.length;
-        let states = self.model.states;
-        let symbols = self.model.symbols;
-        let delivery = self.delivery;
-        let margin = self.numbers.margin;
         Shown {
-            length,
-            states,
-            symbols,
-            delivery,
-            margin,
+            length: self.model.length,
+            states: self.model.states,
+            symbols: self.model.symbols,
+            delivery: self.delivery,
+            margin: self.numbers.margin,
         }
     }
 
     // The upper of an entry.
+    #[tactic(auto, unfolding(crate::specs::Questions::upper_in))]
     pub fn upper(self, p: usize, z: usize, q: usize) -> Answer
         ensures { result ≡ upper_in self p z q }
     {
-        let list = self.numbers.uppers;
-        questions::upper(self.shown(), &list, p, z, q)
+        questions::upper(self.shown(), &self.numbers.uppers, p, z, q)
     }
 
     // The lower of an entry.
+    #[tactic(auto, unfolding(crate::specs::Questions::lower_in))]
     pub fn lower(self, p: usize, z: usize, q: usize) -> Answer
         ensures { result ≡ lower_in self p z q }
     {
-        let list = self.numbers.lowers;
-        questions::lower(self.shown(), &list, p, z, q)
+        questions::lower(self.shown(), &self.numbers.lowers, p, z, q)
     }
 
     // The mean steps of a row.
+    #[tactic(auto, unfolding(crate::specs::Questions::mean_in))]
     pub fn mean_steps(self, p: usize, z: usize) -> Answer
         ensures { result ≡ mean_in self p z }
     {
-        let list = self.numbers.means;
-        questions::mean_steps(self.shown(), &list, p, z)
+        questions::mean_steps(self.shown(), &self.numbers.means, p, z)
     }
 
     // The margin.
+    #[tactic(auto, unfolding(crate::specs::Questions::margin_in))]
     pub fn margin(self) -> Answer
         ensures { result ≡ margin_in self }
     {
@@ -224,33 +202,33 @@ impl Register {
     }
 
     // The live mark of an entry, which needs a model only.
+    #[tactic(auto, unfolding(crate::specs::Questions::live_in))]
     pub fn live(self, p: usize, z: usize, q: usize) -> Answer
         ensures { result ≡ live_in self p z q }
     {
-        let list = self.model.live;
-        questions::live(self.shown(), &list, p, z, q)
+        questions::live(self.shown(), &self.model.live, p, z, q)
     }
 
     // The chance of an entry within so many steps, which needs a model only.
+    #[tactic(auto, unfolding(crate::specs::Questions::within_in))]
     pub fn within(self, steps: usize, p: usize, z: usize, q: usize) -> Answer
         ensures { result ≡ within_in self steps p z q }
     {
-        let shown = self.shown();
-        let bytes = self.model.bytes;
-        let length = self.model.length;
         let mut starts = [0u16; STARTS];
-        let sizes = index::find(&bytes, length, &mut starts);
+        let sizes = index::find(&self.model.bytes, self.model.length, &mut starts);
         let asked = ShortRun { steps, p, z, q };
-        questions::within(shown, sizes, &bytes, &starts, asked)
+        questions::within(self.shown(), sizes, &self.model.bytes, &starts, asked)
     }
 
     // What questions are answered from, beside the lists of numbers.
     pub fn view(self) -> View
         ensures { result ≡ view_of self }
     {
-        let shown = self.shown();
         let bytes = self.model.bytes;
-        View { shown, bytes }
+        View {
+            shown: self.shown(),
+            bytes,
+        }
     }
 
     // Its lists of numbers: live marks and mean steps in the order of files, uppers and lowers by exit (request A.6).

@@ -1,3 +1,2 @@
--- Replies: a refusal's line from its parts, and lines byte by byte.
-pub mod Replies
+-- Replies, byte by byte.
 pub mod Edges

@@ -17,5 +17,5 @@ text_of Silence = []
 text_of Unclear = unclear_line
 text_of Cleared = reply_line cleared
 text_of (Filed o) = reply_line (model_reply o)
-text_of (Received o m) = reply_line (delivery_reply o m)
+text_of (Received r) = reply_line (delivery_reply r)
 text_of (Answered a) = reply_line (answer_reply a)

@@ -4,13 +4,12 @@
 ghost use Rattle.std.specs.Prelude.{◌+◌, ◌≤◌, length};
 ghost use Rattle.text.specs.Clauses.{Put};
 ghost use Rattle.calls.specs.Calls.{value};
-ghost use Rattle.calls.specs.Answers.{model_reply, mark_reply, delivery_reply, answer_reply};
 ghost use Rattle.replies.specs.Replies.{reply_line};
 ghost use Rattle.replies.specs.Clauses.{reply_room, text_of};
 
-use calls::{Answer, Mark};
-use lines::put_refused;
-use outcome::{Outcome, number};
+use calls::{Answer, Mark, Receipt};
+use lines::put_refusal;
+use outcome::Outcome;
 use text::{put, put_byte, put_field};
 
 // The most bytes of a reply: those of a refusal, its word, two numbers and a signed one, each after a space, and its end.
@@ -23,7 +22,7 @@ pub enum Response {
     Unclear,
     Cleared,
     Filed(Outcome),
-    Received { outcome: Outcome, mark: Mark },
+    Received(Receipt),
     Answered(Answer),
 }
 
@@ -37,63 +36,6 @@ fn put_value(out: &mut [u8], at: usize, n: u64) -> usize
     put_byte(out, at, b'\n')
 }
 
-// The line of an answer to a question.
-fn put_answer(out: &mut [u8], at: usize, answer: Answer) -> usize
-    requires { at + reply_room ≤ length out.old }
-    ensures { Put out.old out.new at result (reply_line (answer_reply answer)) × (result ≤ at + reply_room) }
-{
-    match answer {
-        Answer::Value(n) => put_value(out, at, n),
-        Answer::Refused {
-            reason,
-            place,
-            shortfall,
-        } => put_refused(out, at, number(reason), place, shortfall),
-    }
-}
-
-// The line of a filed model or counter file.
-fn put_filed(out: &mut [u8], at: usize, outcome: Outcome) -> usize
-    requires { at + reply_room ≤ length out.old }
-    ensures { Put out.old out.new at result (reply_line (model_reply outcome)) × (result ≤ at + reply_room) }
-{
-    match outcome {
-        Outcome::Accepted => put(out, at, b"accepted\n"),
-        Outcome::Refused {
-            reason,
-            place,
-            shortfall,
-        } => put_refused(out, at, number(reason), place, shortfall),
-    }
-}
-
-// The line of an accepted delivery, whose mark is never absent.
-fn put_mark(out: &mut [u8], at: usize, mark: Mark) -> usize
-    requires { at + reply_room ≤ length out.old }
-    ensures { Put out.old out.new at result (reply_line (mark_reply mark)) × (result ≤ at + reply_room) }
-{
-    match mark {
-        Mark::Known => put(out, at, b"known\n"),
-        Mark::New => put(out, at, b"new\n"),
-        Mark::Absent => put(out, at, b"accepted\n"),
-    }
-}
-
-// The line of a filed delivery.
-fn put_received(out: &mut [u8], at: usize, outcome: Outcome, mark: Mark) -> usize
-    requires { at + reply_room ≤ length out.old }
-    ensures { Put out.old out.new at result (reply_line (delivery_reply outcome mark)) × (result ≤ at + reply_room) }
-{
-    match outcome {
-        Outcome::Accepted => put_mark(out, at, mark),
-        Outcome::Refused {
-            reason,
-            place,
-            shortfall,
-        } => put_refused(out, at, number(reason), place, shortfall),
-    }
-}
-
 // The line of a response, if it has one.
 pub fn put_response(out: &mut [u8], at: usize, response: Response) -> usize
     requires { at + reply_room ≤ length out.old }
@@ -103,8 +45,12 @@ pub fn put_response(out: &mut [u8], at: usize, response: Response) -> usize
         Response::Silence => at,
         Response::Unclear => put(out, at, b"unclear\n"),
         Response::Cleared => put(out, at, b"cleared\n"),
-        Response::Filed(outcome) => put_filed(out, at, outcome),
-        Response::Received { outcome, mark } => put_received(out, at, outcome, mark),
-        Response::Answered(answer) => put_answer(out, at, answer),
+        Response::Filed(Ok(())) => put(out, at, b"accepted\n"),
+        Response::Received(Ok(Mark::Known)) => put(out, at, b"known\n"),
+        Response::Received(Ok(Mark::New)) => put(out, at, b"new\n"),
+        Response::Answered(Ok(n)) => put_value(out, at, n),
+        Response::Filed(Err(why)) | Response::Received(Err(why)) | Response::Answered(Err(why)) => {
+            put_refusal(out, at, why)
+        }
     }
 }

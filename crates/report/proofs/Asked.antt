@@ -16,7 +16,7 @@ use Rattle.model.specs.declared.sizes.Sizes.{Sizes}
 use Rattle.model.specs.Sizes.{sizes_of}
 use Rattle.model.specs.Clauses.{Fits}
 use Rattle.register.specs.declared.Register.{Register}
-use Rattle.calls.specs.declared.Answer.{Answer}
+use Rattle.calls.specs.Answers.{Answer}
 use Rattle.register.specs.Questions.{upper_in, lower_in, margin_in, live_in}
 use Rattle.calls.specs.Calls.{Call, Reply, live}
 use Rattle.calls.specs.Answers.{answer_reply}

@@ -1,13 +1,11 @@
 -- The self-test: a cleared register accepts W, as its table of exchanges has it, and refuses W without its last byte for its length.
 use Prim.Native.Nat.{ℕ}
 use native.Mathlib.Omega.{arith}
-use mathlib.Core.Bool.{Bool, true, false, not, ◌&&◌}
+use mathlib.Core.Bool.{true, false}
 use mathlib.Core.List.{List}
 use mathlib.Core.Path.{◌≡◌, refl}
 use lib.ListN.{take}
-use Rattle.outcome.specs.declared.Outcome.{Outcome}
-use Rattle.outcome.specs.declared.Outcome.TheVariants.{Accepted, Refused}
-use Rattle.outcome.specs.Tests.{is_refused, first}
+use Rattle.outcome.specs.Tests.{first}
 use Rattle.model.specs.W.{w_file}
 use Rattle.wellformed.specs.Verdict.{whole_records, model_tests, model_verdict}
 use Rattle.register.specs.declared.Register.{Register}
@@ -20,10 +18,12 @@ use Rattle.calls.specs.Answers.{model_reply}
 use Rattle.history.specs.Run.{reply_of, replies}
 use Rattle.history.proofs.Edges.{model_replied}
 use Rattle.report.specs.SelfTest.{filings, test_filed, passed}
+use Rattle.outcome.specs.Outcomes.{Outcome, is_refused}
+use Rattle.std.specs.Prelude.{Err, Ok}
 
 not_refused : (o : Outcome) → model_reply o ≡ calls.accepted → is_refused o ≡ false
-not_refused Accepted e = refl
-not_refused (Refused x i k) e = let z : ◌≡◌ {A = ℕ} 0 1 = cc in absurd (omega arith)
+not_refused (Ok u) e = refl
+not_refused (Err why) e = let z : ◌≡◌ {A = ℕ} 0 1 = cc in absurd (omega arith)
 
 whole_accepted : is_refused (file_model cleared w_file).outcome ≡ false
 unfolding reply_of replies

@@ -1,8 +1,6 @@
 -- What a printout holds, and the lines of entries as the code walks through them.
-use Rattle.std.specs.Prelude.{ℕ, ◌+◌, ◌*◌, ◌≤◌, List, [], ◌≡◌, length, take}
+use Rattle.std.specs.Prelude.{ℕ, ◌+◌, ◌*◌, ◌≤◌, List, ◌≡◌, length, take}
 use Rattle.outcome.specs.Reasons.{number_of}
-use Rattle.outcome.specs.declared.Outcome.{Outcome}
-use Rattle.outcome.specs.declared.Outcome.TheVariants.{Accepted, Refused}
 use Rattle.ppda.specs.Equations.{entries}
 use Rattle.model.specs.declared.sizes.Sizes.{Sizes}
 use Rattle.model.specs.Format.{most_rows, most_entries}
@@ -13,6 +11,8 @@ use Rattle.lines.specs.Lines.{refused_line}
 use Rattle.lines.specs.Clauses.{table_room, margin_room, chance_room, steps_room}
 use Rattle.report.specs.declared.Printout.{Printout}
 use Rattle.report.specs.Printed.{chance_lines, lines_by}
+use Rattle.outcome.specs.declared.Refusal.{Refusal}
+use Rattle.outcome.specs.Outcomes.{Accepted}
 
 -- The bytes of a buffer: no report has more lines, nor longer ones.
 abbrev pub room : ℕ
@@ -35,9 +35,8 @@ lines_with r records l n = lines_by (reply_of r) records (entries n.states n.sym
 -- ---- filings
 
 -- The line of a refusal.
-abbrev pub refusal_of : Outcome → List ℕ
-refusal_of Accepted = []
-refusal_of (Refused x i k) = refused_line (number_of x) i k
+abbrev pub line_of : Refusal → List ℕ
+line_of why = refused_line (number_of why.reason) why.place why.shortfall
 
 -- The register after the model b was filed in an empty one and accepted.
 pub record HoldsModel (r : Register) (b : List ℕ) : Type 0 where

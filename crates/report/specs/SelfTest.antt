@@ -1,10 +1,10 @@
 -- The self-test (document 01, "Model W": filed in the program's self-test before any file).
 use Rattle.std.specs.Prelude.{Bool, not, ◌&&◌, take}
-use Rattle.outcome.specs.Tests.{is_refused}
 use Rattle.model.specs.W.{w_file}
 use Rattle.register.specs.declared.Filed.{Filed}
 use Rattle.register.specs.Filing.{cleared, file_model}
 use Rattle.report.specs.declared.self_test.Filings.{Filings}
+use Rattle.outcome.specs.Outcomes.{is_refused}
 
 abbrev pub filings : Filed → Filed → Filings
 filings whole cut = record { whole = whole; cut = cut }

@@ -14,15 +14,11 @@ pub(crate) fn live_entries(register: Register, n: Sizes) -> usize
     requires { Fits n.states n.symbols }
     ensures { result ≡ live_entries (reply_of register) n.states n.symbols }
 {
-    let entries = n.entries();
     let mut count = 0;
-    let mut e = 0;
-    while e < entries {
+    for e in 0..n.entries() {
         let row = e / n.states;
-        if says_live(register.live(row / n.symbols, row % n.symbols, e % n.states)) {
-            count += 1;
-        }
-        e += 1;
+        let answer = register.live(row / n.symbols, row % n.symbols, e % n.states);
+        count += usize::from(says_live(answer));
     }
     count
 }

@@ -18,16 +18,13 @@ use register::Register;
 fn asked(register: Register, p: usize, z: usize, q: usize, gap: u64) -> Chance
     ensures { chance_text result ≡ chance_of (reply_of register) p z q gap }
 {
-    let live = says_live(register.live(p, z, q));
-    let lower = register.lower(p, z, q);
-    let upper = register.upper(p, z, q);
     Chance {
         p,
         z,
         q,
-        live,
-        lower,
-        upper,
+        live: says_live(register.live(p, z, q)),
+        lower: register.lower(p, z, q),
+        upper: register.upper(p, z, q),
         gap,
     }
 }
@@ -45,23 +42,17 @@ pub(crate) fn put_chances(
     ensures put { Put out.old out.new at result (chances_by register gaps.now n.states n.symbols) }
     ensures upper_bound { result ≤ at + most_entries * chance_room }
 {
-    let entries = n.entries();
     let mut at = at;
-    let mut e = 0;
-    while e < entries {
+    for (e, &gap) in gaps[..n.entries()].iter().enumerate() {
         let row = e / n.states;
-        at = put_chance(
-            out,
-            at,
-            asked(
-                register,
-                row / n.symbols,
-                row % n.symbols,
-                e % n.states,
-                gaps[e],
-            ),
+        let chance = asked(
+            register,
+            row / n.symbols,
+            row % n.symbols,
+            e % n.states,
+            gap,
         );
-        e += 1;
+        at = put_chance(out, at, chance);
     }
     at
 }

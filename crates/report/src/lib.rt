@@ -4,10 +4,10 @@
 use alive::live_entries;
 use chances::put_chances;
 use gaps::gaps_of;
-use lines::{CHANCE_ROOM, MARGIN_ROOM, STEPS_ROOM, TABLE_ROOM, put_margin, put_refused, put_table};
+use lines::{CHANCE_ROOM, MARGIN_ROOM, STEPS_ROOM, TABLE_ROOM, put_margin, put_refusal, put_table};
 use model::format::{MOST_ENTRIES, MOST_ROWS};
 use model::sizes::{Sizes, records, sizes_of};
-use outcome::{Outcome, is_refused, number};
+use outcome::Refusal;
 use register::Register;
 use steps::put_means;
 
@@ -17,12 +17,12 @@ pub mod self_test; // self_test.rt: the self-test on model W
 mod steps; // steps.rt: the lines of the rows' mean steps
 
 ghost use Rattle.std.specs.Prelude.{◌≡◌, length};
-ghost use Rattle.outcome.specs.declared.Outcome.TheVariants.{Accepted};
+ghost use Rattle.outcome.specs.Outcomes.{Accepted};
 ghost use Rattle.verdict.specs.Verdict.{verdict};
 ghost use Rattle.history.specs.Run.{reply_of};
 ghost use Rattle.model.specs.Clauses.{Fits};
 ghost use Rattle.report.specs.Printed.{accepted_lines, printed};
-ghost use Rattle.report.specs.Clauses.{room, HoldsText, lines_with, HoldsModel, refusal_of};
+ghost use Rattle.report.specs.Clauses.{room, HoldsText, lines_with, HoldsModel, line_of};
 
 // The bytes of a buffer: no report has more lines, nor longer ones.
 const ROOM: usize = TABLE_ROOM + MARGIN_ROOM + MOST_ENTRIES * CHANCE_ROOM + MOST_ROWS * STEPS_ROOM;
@@ -41,20 +41,12 @@ fn blank() -> [u8; ROOM]
     [0u8; ROOM]
 }
 
-// The line of a refusal; nothing for an accepted file.
-fn refusal(outcome: Outcome) -> Printout
-    ensures { HoldsText result (refusal_of outcome) }
+// The line of a refusal.
+fn refusal(why: Refusal) -> Printout
+    ensures { HoldsText result (line_of why) }
 {
     let mut bytes = blank();
-    let Outcome::Refused {
-        reason,
-        place,
-        shortfall,
-    } = outcome
-    else {
-        return Printout { bytes, length: 0 };
-    };
-    let length = put_refused(&mut bytes, 0, number(reason), place, shortfall);
+    let length = put_refusal(&mut bytes, 0, why);
     Printout { bytes, length }
 }
 
@@ -88,12 +80,10 @@ fn delivered(holding: Register, model: &[u8], delivery: &[u8]) -> Printout
     ensures { HoldsText result (printed model.now delivery.now) }
 {
     let received = holding.file_delivery(delivery);
-    let outcome = received.outcome;
-    if is_refused(outcome) {
-        return refusal(outcome);
+    match received.receipt {
+        Ok(_) => shown(received.register, model, delivery),
+        Err(why) => refusal(why),
     }
-    let register = received.register;
-    shown(register, model, delivery)
 }
 
 // What is printed of any two files.
@@ -101,10 +91,8 @@ pub fn of_files(model: &[u8], delivery: &[u8]) -> Printout
     ensures { HoldsText result (printed model.now delivery.now) }
 {
     let filed = Register::empty().file_model(model);
-    let outcome = filed.outcome;
-    if is_refused(outcome) {
-        return refusal(outcome);
+    match filed.outcome {
+        Ok(()) => delivered(filed.register, model, delivery),
+        Err(why) => refusal(why),
     }
-    let holding = filed.register;
-    delivered(holding, model, delivery)
 }

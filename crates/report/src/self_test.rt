@@ -3,7 +3,6 @@
 ghost use Rattle.std.specs.Prelude.{◌≡◌};
 ghost use Rattle.report.specs.SelfTest.{test_filed, passed};
 
-use outcome::is_refused;
 use register::{Filed, Register};
 
 // What filing W gives, and what filing W without its last byte does.
@@ -27,9 +26,5 @@ pub fn file_w() -> Filings
 pub fn passed(filings: Filings) -> bool
     ensures { result ≡ passed filings }
 {
-    let whole = filings.whole;
-    let cut = filings.cut;
-    let taken = whole.outcome;
-    let refused = cut.outcome;
-    !is_refused(taken) & is_refused(refused)
+    filings.whole.outcome.is_ok() && filings.cut.outcome.is_err()
 }

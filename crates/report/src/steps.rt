@@ -19,14 +19,11 @@ pub(crate) fn put_means(out: &mut [u8], at: usize, register: Register, n: Sizes)
     ensures put { Put out.old out.new at result (steps_lines (reply_of register) n.states n.symbols) }
     ensures upper_bound { result ≤ at + most_rows * steps_room }
 {
-    let rows = n.rows();
     let mut at = at;
-    let mut k = 0;
-    while k < rows {
+    for k in 0..n.rows() {
         let p = k / n.symbols;
         let z = k % n.symbols;
         at = put_steps(out, at, p, z, register.mean_steps(p, z));
-        k += 1;
     }
     at
 }

@@ -22,14 +22,12 @@ fn start(model: &[u8], n: Sizes, k: usize, i: usize) -> usize
     ensures { StartsAt model.now n.symbols k result }
 {
     let end = records(model);
-    let mut at = i;
-    while at < end {
+    for at in i..end {
         if k <= n.row(state(model, at), symbol(model, at)) {
             return at;
         }
-        at += 1;
     }
-    at
+    end
 }
 
 // Finds where each row starts, and where the last ends.
@@ -39,10 +37,8 @@ pub fn find_starts(model: &[u8], n: Sizes, starts: &mut [u16; STARTS])
 {
     let rows = n.rows();
     let mut at = 0;
-    let mut k = 0;
-    while k <= rows {
+    for k in 0..=rows {
         at = start(model, n, k, at);
         starts[k] = at as u16;
-        k += 1;
     }
 }

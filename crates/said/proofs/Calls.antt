@@ -1,11 +1,16 @@
 -- The laws of calls: the word of each says it, any other word says none, and what a line says by its first word and the rest.
-use Prim.Native.Nat.{ℕ, ◌-◌, ◌<◌}
-use native.Mathlib.Omega.{arith}
-use mathlib.Core.Bool.{true, false}
+use Prim.Native.Nat.{ℕ, ◌-◌}
+use mathlib.Core.Bool.{Bool, true, false}
 use mathlib.Core.List.{List, [], ◌∷◌}
-use mathlib.Core.Path.{◌≡◌, refl, sym, ◌∙◌}
+use mathlib.Core.Path.{◌≡◌, sym, ap, ◌∙◌}
 use lib.Dec.{eqb}
-use lib.ListN.{length, take, drop, get_or}
+use lib.ListN.{length, take, drop}
+use Rattle.std.specs.Bool.{IsTrue}
+use Rattle.std.specs.Borrow.{Bor}
+use Rattle.std.specs.List.{slice_get}
+use Rattle.std.specs.Option.{MatchOption, option_copied}
+use Rattle.std.specs.Prelude.{Option, Some, None}
+use Rattle.std.proofs.lemmas.Option.{none-some, same_Some}
 use Rattle.spelling.specs.Spelling.{same, is_plain}
 use Rattle.spelling.specs.Clauses.{word_end, arguments_in}
 use Rattle.spelling.proofs.Words.{same_is, pieces_split}
@@ -71,16 +76,14 @@ module _ (w : List ℕ) (ws : List (List ℕ)) where
   unfolding by_word
   says_none a b c d m e f g h i j = rw (a, b, c, d, m, e, f, g, h, i, j)
 
--- A line that gets no reply is empty, or its byte 0 is `#`.
-pub silent_none : (l : List ℕ) → length l ≡ 0 → is_silent l ≡ true
+-- A line that gets no reply is empty, or its first byte is `#`.
+pub silent_by : (l : List ℕ) (first : Option (Bor ℕ)) (r : Bool) {P : Bor ℕ → Type 0} → option_copied first ≡ slice_get l 0
+    → MatchOption first (IsTrue r) P → ((b : Bor ℕ) → P b → r ≡ eqb b.now 35) → r ≡ is_silent l
 unfolding is_silent
-silent_none [] e = refl
-silent_none (x ∷ xs) e = absurd (omega arith)
-
-pub silent_first : (l : List ℕ) → 0 < length l → is_silent l ≡ eqb (get_or l 0 0) 35
-unfolding is_silent
-silent_first [] h = absurd (omega arith)
-silent_first (x ∷ xs) h = refl
+silent_by [] None r e is by = is
+silent_by (x ∷ xs) (Some b) r e is by = by b is ∙ ap (λ y. eqb y 35) (same_Some b.now x e)
+silent_by [] (Some b) r e is by = absurd (none-some b.now (sym e))
+silent_by (x ∷ xs) None r e is by = absurd (none-some x e)
 
 -- A line by its first word and the rest.
 pub line_says : (l : List ℕ) → is_silent l ≡ false → is_plain l ≡ true → said_by l ≡ by_word (take (word_end l) l) (arguments_in (drop (word_end l) l))

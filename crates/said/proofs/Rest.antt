@@ -1,18 +1,16 @@
--- The laws of what the words after the first say: a call of no words, and calls with numbers.
+-- The laws of what the words after the first say: a call of no words, and questions of numbers.
 use Prim.Native.Nat.{ℕ, ◌<◌}
 use native.Mathlib.Omega.{arith}
-use mathlib.Core.Bool.{Bool, true, false, cond, ◌&&◌}
+use mathlib.Core.Bool.{Bool, true, false, cond, and-true}
 use mathlib.Core.List.{List, [], ◌∷◌}
-use mathlib.Core.Path.{◌≡◌, refl, sym, ap, ◌∙◌}
-use lib.ListN.{length}
+use mathlib.Core.Path.{◌≡◌, refl, sym}
+use lib.ListN.{length, get_or}
+use Rattle.std.specs.Prelude.{Option, Some, None}
 use Rattle.text.specs.Reading.{number_in}
-use Rattle.spelling.specs.declared.arguments.Numbers.{Numbers}
-use Rattle.spelling.specs.declared.arguments.Numbers.TheVariants.{Two, Three, Four, Other}
-use Rattle.spelling.specs.declared.Number.{Number}
-use Rattle.spelling.specs.declared.Number.TheVariants.{Is, Not}
 use Rattle.spelling.specs.Spelling.{is_number}
-use Rattle.spelling.specs.Clauses.{arguments_in, number_as, two_of, three_of, four_of, after_second, after_first, numbers_of}
+use Rattle.spelling.specs.Clauses.{arguments_in, numbers_of}
 use Rattle.spelling.proofs.Words.{pieces_split}
+use Rattle.spelling.proofs.Rest.{numbers_other}
 use Rattle.calls.specs.declared.Question.{Question}
 use Rattle.said.specs.declared.Said.{Said}
 use Rattle.said.specs.declared.Said.TheVariants as Says
@@ -30,106 +28,62 @@ unfolding arguments_in
 alone_some call [] h = absurd (omega arith)
 alone_some call (x ∷ xs) h = rw (pieces_split xs)
 
--- ---- calls with numbers
+-- ---- questions of numbers
 
--- A call of four numbers, of three, and of two.
-abbrev pub steps_said : (ℕ → ℕ → ℕ → ℕ → Question) → Numbers → Said
-steps_said call (Four a b c d) = Says.Question (call a b c d)
-steps_said call (Three a b c) = Unclear
-steps_said call (Two a b) = Unclear
-steps_said call Other = Unclear
+-- What numbers say by a question of them, and what none say.
+abbrev pub asked : (List ℕ → Question) → Option (List ℕ) → Said
+asked ask None = Unclear
+asked ask (Some ns) = Says.Question (ask ns)
 
-abbrev pub entry_said : (ℕ → ℕ → ℕ → Question) → Numbers → Said
-entry_said call (Four a b c d) = Unclear
-entry_said call (Three a b c) = Says.Question (call a b c)
-entry_said call (Two a b) = Unclear
-entry_said call Other = Unclear
+-- A question of two numbers, of three and of four.
+abbrev pub of_row : (ℕ → ℕ → Question) → List ℕ → Question
+of_row ask ns = ask (get_or ns 0 0) (get_or ns 1 0)
 
-abbrev pub row_said : (ℕ → ℕ → Question) → Numbers → Said
-row_said call (Four a b c d) = Unclear
-row_said call (Three a b c) = Unclear
-row_said call (Two a b) = Says.Question (call a b)
-row_said call Other = Unclear
+abbrev pub of_entry : (ℕ → ℕ → ℕ → Question) → List ℕ → Question
+of_entry ask ns = ask (get_or ns 0 0) (get_or ns 1 0) (get_or ns 2 0)
 
-four_flags : (call : ℕ → ℕ → ℕ → ℕ → Question) (s t u v : Bool) (a b c d : ℕ)
-    → cond (s && (t && (u && v))) (Says.Question (call a b c d)) Unclear
-    ≡ steps_said call (four_of (cond s (Is a) Not) (cond t (Is b) Not) (cond u (Is c) Not) (cond v (Is d) Not))
-four_flags call true true true true a b c d = refl
-four_flags call true true true false a b c d = refl
-four_flags call true true false v a b c d = refl
-four_flags call true false u v a b c d = refl
-four_flags call false t u v a b c d = refl
+abbrev pub of_steps : (ℕ → ℕ → ℕ → ℕ → Question) → List ℕ → Question
+of_steps ask ns = ask (get_or ns 0 0) (get_or ns 1 0) (get_or ns 2 0) (get_or ns 3 0)
 
-three_flags : (call : ℕ → ℕ → ℕ → Question) (s t u : Bool) (a b c : ℕ)
-    → cond (s && (t && u)) (Says.Question (call a b c)) Unclear ≡ entry_said call (three_of (cond s (Is a) Not) (cond t (Is b) Not) (cond u (Is c) Not))
-three_flags call true true true a b c = refl
-three_flags call true true false a b c = refl
-three_flags call true false u a b c = refl
-three_flags call false t u a b c = refl
+-- Words of another number than n say no question of n numbers, and n words say it by a test of them all.
+other_words : (n : ℕ) (ws : List (List ℕ)) (ask : List ℕ → Question) → (length ws ≡ n → ⊥) → Unclear ≡ asked ask (numbers_of n ws)
+other_words n ws ask other = rw (numbers_other n ws other)
 
-two_flags : (call : ℕ → ℕ → Question) (s t : Bool) (a b : ℕ)
-    → cond (s && t) (Says.Question (call a b)) Unclear ≡ row_said call (two_of (cond s (Is a) Not) (cond t (Is b) Not))
-two_flags call true true a b = refl
-two_flags call true false a b = refl
-two_flags call false t a b = refl
+by_test : (t : Bool) (ns : List ℕ) (ask : List ℕ → Question) → cond t (Says.Question (ask ns)) Unclear ≡ asked ask (cond t (Some ns) None)
+by_test true ns ask = refl
+by_test false ns ask = refl
 
--- Fewer or more numbers than a call has say none: what is said of two numbers, of three and of four, where nothing is said of none.
-module _ (said : Numbers → Said) (other : said Other ≡ Unclear) where
-  two_none : ((a b : ℕ) → said (Two a b) ≡ Unclear) → (x y : Number) → Unclear ≡ said (two_of x y)
-  two_none none (Is a) (Is b) = sym (none a b)
-  two_none none (Is a) Not = sym other
-  two_none none Not y = sym other
+row_said : (ask : ℕ → ℕ → Question) (ws : List (List ℕ)) → on_row ask ws ≡ asked (of_row ask) (numbers_of 2 ws)
+unfolding numbers_of
+row_said ask [] = other_words 2 [] (of_row ask) (omega arith)
+row_said ask (p ∷ []) = other_words 2 (p ∷ []) (of_row ask) (omega arith)
+row_said ask (p ∷ z ∷ []) = rw (and-true (is_number z)) (by_test _ (number_in p ∷ number_in z ∷ []) (of_row ask))
+row_said ask (p ∷ z ∷ w ∷ ws) = other_words 2 (p ∷ z ∷ w ∷ ws) (of_row ask) (omega arith)
 
-  three_none : ((a b c : ℕ) → said (Three a b c) ≡ Unclear) → (x y z : Number) → Unclear ≡ said (three_of x y z)
-  three_none none (Is a) (Is b) (Is c) = sym (none a b c)
-  three_none none (Is a) (Is b) Not = sym other
-  three_none none (Is a) Not z = sym other
-  three_none none Not y z = sym other
+entry_said : (ask : ℕ → ℕ → ℕ → Question) (ws : List (List ℕ)) → on_entry ask ws ≡ asked (of_entry ask) (numbers_of 3 ws)
+unfolding numbers_of
+entry_said ask [] = other_words 3 [] (of_entry ask) (omega arith)
+entry_said ask (p ∷ []) = other_words 3 (p ∷ []) (of_entry ask) (omega arith)
+entry_said ask (p ∷ z ∷ []) = other_words 3 (p ∷ z ∷ []) (of_entry ask) (omega arith)
+entry_said ask (p ∷ z ∷ q ∷ []) = rw (and-true (is_number q)) (by_test _ (number_in p ∷ number_in z ∷ number_in q ∷ []) (of_entry ask))
+entry_said ask (p ∷ z ∷ q ∷ w ∷ ws) = other_words 3 (p ∷ z ∷ q ∷ w ∷ ws) (of_entry ask) (omega arith)
 
-  four_none : ((a b c d : ℕ) → said (Four a b c d) ≡ Unclear) → (x y z w : Number) → Unclear ≡ said (four_of x y z w)
-  four_none none (Is a) (Is b) (Is c) (Is d) = sym (none a b c d)
-  four_none none (Is a) (Is b) (Is c) Not = sym other
-  four_none none (Is a) (Is b) Not w = sym other
-  four_none none (Is a) Not z w = sym other
-  four_none none Not y z w = sym other
-
-pub steps_said_lem : (call : ℕ → ℕ → ℕ → ℕ → Question) (ws : List (List ℕ)) → on_steps call ws ≡ steps_said call (numbers_of ws)
-unfolding numbers_of after_first after_second number_as
-steps_said_lem call [] = refl
-steps_said_lem call (n ∷ []) = refl
-steps_said_lem call (n ∷ p ∷ []) = two_none (steps_said call) refl (λ a b. refl) (number_as n) (number_as p)
-steps_said_lem call (n ∷ p ∷ z ∷ []) = three_none (steps_said call) refl (λ a b c. refl) (number_as n) (number_as p) (number_as z)
-steps_said_lem call (n ∷ p ∷ z ∷ q ∷ []) =
-    four_flags call (is_number n) (is_number p) (is_number z) (is_number q) (number_in n) (number_in p) (number_in z) (number_in q)
-steps_said_lem call (n ∷ p ∷ z ∷ q ∷ w ∷ ws) = refl
-
-pub entry_said_lem : (call : ℕ → ℕ → ℕ → Question) (ws : List (List ℕ)) → on_entry call ws ≡ entry_said call (numbers_of ws)
-unfolding numbers_of after_first after_second number_as
-entry_said_lem call [] = refl
-entry_said_lem call (p ∷ []) = refl
-entry_said_lem call (p ∷ z ∷ []) = two_none (entry_said call) refl (λ a b. refl) (number_as p) (number_as z)
-entry_said_lem call (p ∷ z ∷ q ∷ []) = three_flags call (is_number p) (is_number z) (is_number q) (number_in p) (number_in z) (number_in q)
-entry_said_lem call (p ∷ z ∷ q ∷ w ∷ []) = four_none (entry_said call) refl (λ a b c d. refl) (number_as p) (number_as z) (number_as q) (number_as w)
-entry_said_lem call (p ∷ z ∷ q ∷ w ∷ v ∷ ws) = refl
-
-pub row_said_lem : (call : ℕ → ℕ → Question) (ws : List (List ℕ)) → on_row call ws ≡ row_said call (numbers_of ws)
-unfolding numbers_of after_first after_second number_as
-row_said_lem call [] = refl
-row_said_lem call (p ∷ []) = refl
-row_said_lem call (p ∷ z ∷ []) = two_flags call (is_number p) (is_number z) (number_in p) (number_in z)
-row_said_lem call (p ∷ z ∷ q ∷ []) = three_none (row_said call) refl (λ a b c. refl) (number_as p) (number_as z) (number_as q)
-row_said_lem call (p ∷ z ∷ q ∷ w ∷ []) = four_none (row_said call) refl (λ a b c d. refl) (number_as p) (number_as z) (number_as q) (number_as w)
-row_said_lem call (p ∷ z ∷ q ∷ w ∷ v ∷ ws) = refl
+steps_said : (ask : ℕ → ℕ → ℕ → ℕ → Question) (ws : List (List ℕ)) → on_steps ask ws ≡ asked (of_steps ask) (numbers_of 4 ws)
+unfolding numbers_of
+steps_said ask [] = other_words 4 [] (of_steps ask) (omega arith)
+steps_said ask (n ∷ []) = other_words 4 (n ∷ []) (of_steps ask) (omega arith)
+steps_said ask (n ∷ p ∷ []) = other_words 4 (n ∷ p ∷ []) (of_steps ask) (omega arith)
+steps_said ask (n ∷ p ∷ z ∷ []) = other_words 4 (n ∷ p ∷ z ∷ []) (of_steps ask) (omega arith)
+steps_said ask (n ∷ p ∷ z ∷ q ∷ []) = rw (and-true (is_number q)) (by_test _ (number_in n ∷ number_in p ∷ number_in z ∷ number_in q ∷ []) (of_steps ask))
+steps_said ask (n ∷ p ∷ z ∷ q ∷ w ∷ ws) = other_words 4 (n ∷ p ∷ z ∷ q ∷ w ∷ ws) (of_steps ask) (omega arith)
 
 -- What is said by numbers that the code has found.
-pub steps_found : (call : ℕ → ℕ → ℕ → ℕ → Question) (ws : List (List ℕ)) (n : Numbers) {found : Numbers} → n ≡ numbers_of ws → n ≡ found
-    → steps_said call found ≡ on_steps call ws
-steps_found call ws n e q = ap (steps_said call) (sym q ∙ e) ∙ sym (steps_said_lem call ws)
+module _ (ws : List (List ℕ)) {found : Option (List ℕ)} where
+  pub row_found : (ask : ℕ → ℕ → Question) → found ≡ numbers_of 2 ws → asked (of_row ask) found ≡ on_row ask ws
+  row_found ask e = rw e (sym (row_said ask ws))
 
-pub entry_found : (call : ℕ → ℕ → ℕ → Question) (ws : List (List ℕ)) (n : Numbers) {found : Numbers} → n ≡ numbers_of ws → n ≡ found
-    → entry_said call found ≡ on_entry call ws
-entry_found call ws n e q = ap (entry_said call) (sym q ∙ e) ∙ sym (entry_said_lem call ws)
+  pub entry_found : (ask : ℕ → ℕ → ℕ → Question) → found ≡ numbers_of 3 ws → asked (of_entry ask) found ≡ on_entry ask ws
+  entry_found ask e = rw e (sym (entry_said ask ws))
 
-pub row_found : (call : ℕ → ℕ → Question) (ws : List (List ℕ)) (n : Numbers) {found : Numbers} → n ≡ numbers_of ws → n ≡ found
-    → row_said call found ≡ on_row call ws
-row_found call ws n e q = ap (row_said call) (sym q ∙ e) ∙ sym (row_said_lem call ws)
+  pub steps_found : (ask : ℕ → ℕ → ℕ → ℕ → Question) → found ≡ numbers_of 4 ws → asked (of_steps ask) found ≡ on_steps ask ws
+  steps_found ask e = rw e (sym (steps_said ask ws))

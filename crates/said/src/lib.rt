@@ -1,12 +1,13 @@
 // What a line of a script says: a call, no call, or nothing that wants a reply.
 #![tactic(auto)]
 
-ghost use Rattle.std.specs.Prelude.{◌≡◌};
+ghost use Rattle.std.specs.Prelude.{◌≡◌, ℕ};
 ghost use Rattle.spelling.specs.Clauses.{arguments_in};
+ghost use Rattle.calls.specs.declared.Question.{Question};
 ghost use Rattle.said.specs.Said.{said_by, is_silent, by_word, alone, on_file, on_row, on_entry, on_steps};
 
 use calls::Question;
-use spelling::arguments::{Numbers, is_file, numbers_in};
+use spelling::arguments::{is_file, numbers_in};
 use spelling::{is_plain, is_word, word_end};
 
 // A call that may change the register. The file that a filing or a merge names is the second word of its line.
@@ -32,17 +33,14 @@ pub enum Said {
 fn is_silent(line: &[u8]) -> bool
     ensures { result ≡ is_silent line.now }
 {
-    if line.len() == 0 {
-        return true;
-    }
-    line[0] == b'#'
+    line.first().is_none_or(|byte| *byte == b'#')
 }
 
 // A call that is one word.
 fn alone(rest: &[u8], call: Said) -> Said
     ensures { result ≡ alone call (arguments_in rest.now) }
 {
-    if rest.len() == 0 { call } else { Said::Unclear }
+    if rest.is_empty() { call } else { Said::Unclear }
 }
 
 // A call that names a file.
@@ -52,39 +50,19 @@ fn on_file(rest: &[u8], call: Said) -> Said
     if is_file(rest) { call } else { Said::Unclear }
 }
 
-// The upper of an entry.
-fn upper(rest: &[u8]) -> Said
-    ensures { result ≡ on_entry Question.Upper (arguments_in rest.now) }
+// A question of an entry, by its three numbers.
+fn on_entry<F: FnOnce(usize, usize, usize) -> Question>(rest: &[u8], ask: F) -> Said
+    requires { F.IsAlwaysCallable ask }
+    ensures { (call : ℕ → ℕ → ℕ → Question)
+        → ((p z q : ℕ) (a : Question) → F.post ask p z q a → a ≡ call p z q)
+        → result ≡ on_entry call (arguments_in rest.now) }
 {
-    match numbers_in(rest) {
-        Numbers::Three { a, b, c } => Said::Question(Question::Upper { p: a, z: b, q: c }),
-        Numbers::Two { .. } => Said::Unclear,
-        Numbers::Four { .. } => Said::Unclear,
-        Numbers::Other => Said::Unclear,
-    }
-}
-
-// The lower of an entry.
-fn lower(rest: &[u8]) -> Said
-    ensures { result ≡ on_entry Question.Lower (arguments_in rest.now) }
-{
-    match numbers_in(rest) {
-        Numbers::Three { a, b, c } => Said::Question(Question::Lower { p: a, z: b, q: c }),
-        Numbers::Two { .. } => Said::Unclear,
-        Numbers::Four { .. } => Said::Unclear,
-        Numbers::Other => Said::Unclear,
-    }
-}
-
-// The live mark of an entry.
-fn live(rest: &[u8]) -> Said
-    ensures { result ≡ on_entry Question.Live (arguments_in rest.now) }
-{
-    match numbers_in(rest) {
-        Numbers::Three { a, b, c } => Said::Question(Question::Live { p: a, z: b, q: c }),
-        Numbers::Two { .. } => Said::Unclear,
-        Numbers::Four { .. } => Said::Unclear,
-        Numbers::Other => Said::Unclear,
+    match numbers_in::<3>(rest) {
+        Some(numbers) => {
+            let [p, z, q] = numbers;
+            Said::Question(ask(p, z, q))
+        }
+        None => Said::Unclear,
     }
 }
 
@@ -92,11 +70,12 @@ fn live(rest: &[u8]) -> Said
 fn steps(rest: &[u8]) -> Said
     ensures { result ≡ on_row Question.MeanSteps (arguments_in rest.now) }
 {
-    match numbers_in(rest) {
-        Numbers::Two { a, b } => Said::Question(Question::MeanSteps { p: a, z: b }),
-        Numbers::Three { .. } => Said::Unclear,
-        Numbers::Four { .. } => Said::Unclear,
-        Numbers::Other => Said::Unclear,
+    match numbers_in::<2>(rest) {
+        Some(numbers) => {
+            let [p, z] = numbers;
+            Said::Question(Question::MeanSteps { p, z })
+        }
+        None => Said::Unclear,
     }
 }
 
@@ -104,16 +83,12 @@ fn steps(rest: &[u8]) -> Said
 fn within(rest: &[u8]) -> Said
     ensures { result ≡ on_steps Question.Within (arguments_in rest.now) }
 {
-    match numbers_in(rest) {
-        Numbers::Four { a, b, c, d } => Said::Question(Question::Within {
-            steps: a,
-            p: b,
-            z: c,
-            q: d,
-        }),
-        Numbers::Two { .. } => Said::Unclear,
-        Numbers::Three { .. } => Said::Unclear,
-        Numbers::Other => Said::Unclear,
+    match numbers_in::<4>(rest) {
+        Some(numbers) => {
+            let [steps, p, z, q] = numbers;
+            Said::Question(Question::Within { steps, p, z, q })
+        }
+        None => Said::Unclear,
     }
 }
 
@@ -121,40 +96,32 @@ fn within(rest: &[u8]) -> Said
 fn by_word(word: &[u8], rest: &[u8]) -> Said
     ensures { result ≡ by_word word.now (arguments_in rest.now) }
 {
+    // A chain of tests: of a byte string's pattern a proof learns no more than the length.
     if is_word(word, b"clear") {
-        return alone(rest, Said::Change(Change::Clear));
+        alone(rest, Said::Change(Change::Clear))
+    } else if is_word(word, b"model") {
+        on_file(rest, Said::Change(Change::Model))
+    } else if is_word(word, b"counter") {
+        on_file(rest, Said::Change(Change::Counter))
+    } else if is_word(word, b"delivery") {
+        on_file(rest, Said::Change(Change::Delivery))
+    } else if is_word(word, b"merge") {
+        on_file(rest, Said::Change(Change::Merge))
+    } else if is_word(word, b"upper") {
+        on_entry(rest, |p, z, q| Question::Upper { p, z, q })
+    } else if is_word(word, b"lower") {
+        on_entry(rest, |p, z, q| Question::Lower { p, z, q })
+    } else if is_word(word, b"steps") {
+        steps(rest)
+    } else if is_word(word, b"margin") {
+        alone(rest, Said::Question(Question::Margin))
+    } else if is_word(word, b"live") {
+        on_entry(rest, |p, z, q| Question::Live { p, z, q })
+    } else if is_word(word, b"within") {
+        within(rest)
+    } else {
+        Said::Unclear
     }
-    if is_word(word, b"model") {
-        return on_file(rest, Said::Change(Change::Model));
-    }
-    if is_word(word, b"counter") {
-        return on_file(rest, Said::Change(Change::Counter));
-    }
-    if is_word(word, b"delivery") {
-        return on_file(rest, Said::Change(Change::Delivery));
-    }
-    if is_word(word, b"merge") {
-        return on_file(rest, Said::Change(Change::Merge));
-    }
-    if is_word(word, b"upper") {
-        return upper(rest);
-    }
-    if is_word(word, b"lower") {
-        return lower(rest);
-    }
-    if is_word(word, b"steps") {
-        return steps(rest);
-    }
-    if is_word(word, b"margin") {
-        return alone(rest, Said::Question(Question::Margin));
-    }
-    if is_word(word, b"live") {
-        return live(rest);
-    }
-    if is_word(word, b"within") {
-        return within(rest);
-    }
-    Said::Unclear
 }
 
 // What a line, without its end, says.

@@ -8,7 +8,7 @@ use lib.Dec.{eqb}
 use lib.ListN.{take}
 use Rattle.text.specs.Reading.{pieces}
 use Rattle.calls.specs.Calls.{Call}
-use Rattle.history.specs.Plain.{Event, pair_of, plain_reply}
+use Rattle.history.specs.Plain.{Event}
 use Rattle.history.specs.Run.{register_after, reply_to, history}
 use Rattle.history.specs.Mission.{Mission}
 use Rattle.history.proofs.Plain.{as_plain_pair}

@@ -15,7 +15,6 @@ use Rattle.register.specs.declared.Register.{Register}
 use Rattle.register.specs.Filing as Filing
 use Rattle.register.specs.Merging.{has_delivery, merge_by, merge_delivery}
 use Rattle.register.specs.Questions.{has_model, shown_of, lists_of, view_of, upper_in, lower_in, mean_in, margin_in, live_in, within_in}
-use Rattle.outcome.specs.declared.Outcome.{Outcome}
 use Rattle.verdict.specs.Verdict.{verdict}
 use Rattle.held.specs.Held.{holds_model, is_held}
 use Rattle.filing.specs.Outcomes.{model_outcome, file_of, delivery_outcome, merge_reason, merge_after, merge_outcome}
@@ -32,6 +31,7 @@ use Rattle.replies.specs.Clauses.{text_of}
 use Rattle.script.specs.Script.{change_call, asked_by, reads_file}
 use Rattle.script.specs.Serving.{register_by, reply_by}
 use Rattle.script.specs.Clauses.{may_change, answered_from, change_made, changed_by}
+use Rattle.outcome.specs.Outcomes.{Outcome}
 
 module _ (r : Register) where
   -- What may change the register: the register after it, and the text.
@@ -119,7 +119,7 @@ module _ (r : Register) where
     where
       go : (t u : Bool) (o : Outcome) (b : List ℕ) → (t && u) ≡ false →
           let x = merge_by (merge_after (merge_reason t u) o) r b f in
-          delivery_reply x.outcome x.mark ≡ refusal (cond t 42 40)
+          delivery_reply x.receipt ≡ refusal (cond t 42 40)
       go true true o b e = absurd (false≢true (sym e))
       go true false o b e = refl
       go false u o b e = refl

@@ -6,6 +6,7 @@ use Rattle.questions.specs.Clauses.{is_short}
 use Rattle.register.specs.declared.Register.{Register}
 use Rattle.register.specs.Filing as Filing
 use Rattle.register.specs.Merging.{merge_delivery}
+use Rattle.register.specs.declared.Filed as Given
 use Rattle.register.specs.declared.Received as Register
 use Rattle.counter.specs.Filing.{file_counter}
 use Rattle.said.specs.declared.Change.{Change}
@@ -40,15 +41,19 @@ answered_from h b l (Says.Question k) = Answered (answer_from h b l k)
 abbrev pub responded : Register → Response → Responded
 responded r x = record { register = r; response = x }
 
+-- What a model gives, filed by itself or by a counter file.
+abbrev pub filed_as : Given.Filed → Responded
+filed_as x = responded x.register (Filed x.outcome)
+
 -- What a delivery gives, filed or merged.
 abbrev pub received_as : Register.Received → Responded
-received_as x = responded x.register (Received x.outcome x.mark)
+received_as x = responded x.register (Received x.receipt)
 
 -- The register after a change, and the response, where the file that is named has these bytes.
 abbrev pub change_made : Register → Change → List ℕ → Responded
 change_made r Clear f = responded Filing.cleared Cleared
-change_made r Model f = responded (Filing.file_model r f).register (Filed (Filing.file_model r f).outcome)
-change_made r Counter f = responded (file_counter r f).register (Filed (file_counter r f).outcome)
+change_made r Model f = filed_as (Filing.file_model r f)
+change_made r Counter f = filed_as (file_counter r f)
 change_made r Delivery f = received_as (Filing.file_delivery r f)
 change_made r Merge f = received_as (merge_delivery r f)
 

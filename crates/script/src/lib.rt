@@ -7,7 +7,7 @@ ghost use Rattle.register.specs.Filing.{cleared};
 ghost use Rattle.replies.specs.declared.Response.TheVariants.{Silence, Cleared};
 ghost use Rattle.said.specs.declared.Change.TheVariants.{Model, Counter, Delivery, Merge};
 ghost use Rattle.script.specs.Script.{change_reads, reads_file};
-ghost use Rattle.script.specs.Clauses.{may_change, asks_short, answered_from, responded, received_as, change_made, changed_by};
+ghost use Rattle.script.specs.Clauses.{may_change, asks_short, answered_from, filed_as, received_as, change_made, changed_by};
 
 use model::format::{MOST_BYTES, MOST_ENTRIES};
 use model::sizes::Sizes;
@@ -28,12 +28,7 @@ pub struct Responded {
 pub fn may_change(said: Said) -> bool
     ensures { result ≡ may_change said }
 {
-    match said {
-        Said::Nothing => false,
-        Said::Unclear => false,
-        Said::Change(_) => true,
-        Said::Question(_) => false,
-    }
+    matches!(said, Said::Change(_))
 }
 
 // Whether the file of a change is read, by whether a model and a delivery are held: the register's own reasons come first.
@@ -45,7 +40,7 @@ fn change_reads(model: bool, delivery: bool, change: Change) -> bool
         Change::Model => !model,
         Change::Counter => !model,
         Change::Delivery => model,
-        Change::Merge => model & delivery,
+        Change::Merge => model && delivery,
     }
 }
 
@@ -54,10 +49,8 @@ pub fn reads_file(model: bool, delivery: bool, said: Said) -> bool
     ensures { result ≡ reads_file model delivery said }
 {
     match said {
-        Said::Nothing => false,
-        Said::Unclear => false,
         Said::Change(change) => change_reads(model, delivery, change),
-        Said::Question(_) => false,
+        _ => false,
     }
 }
 
@@ -66,10 +59,8 @@ pub fn asks_short(said: Said) -> bool
     ensures { result ≡ asks_short said }
 {
     match said {
-        Said::Nothing => false,
-        Said::Unclear => false,
-        Said::Change(_) => false,
         Said::Question(question) => questions::is_short(question),
+        _ => false,
     }
 }
 
@@ -86,75 +77,35 @@ pub fn answer<'a>(
     ensures { result ≡ answered_from held bytes.now lists.now said }
 {
     match said {
-        Said::Nothing => Response::Silence,
         Said::Unclear => Response::Unclear,
-        Said::Change(_) => Response::Silence,
+        Said::Nothing | Said::Change(_) => Response::Silence,
         Said::Question(question) => {
             Response::Answered(questions::answer(held, sizes, bytes, starts, lists, question))
         }
     }
 }
 
-// What the filing of a model gives, by itself or by a counter file.
-fn filed(given: Filed) -> Responded
-    ensures { result ≡ responded given.register (Response.Filed given.outcome) }
-{
-    let after = given.register;
-    let outcome = given.outcome;
-    Responded {
-        register: after,
-        response: Response::Filed(outcome),
+// The filing of a model, by itself or by a counter file.
+impl From<Filed> for Responded {
+    ghost from_gives = { λ given x. x ≡ filed_as given };
+
+    fn from(given: Filed) -> Responded {
+        Responded {
+            register: given.register,
+            response: Response::Filed(given.outcome),
+        }
     }
 }
 
-// Files a model.
-fn file_model(register: Register, file: &[u8]) -> Responded
-    ensures { result ≡ change_made register Model file.now }
-{
-    filed(register.file_model(file))
-}
+// The filing of a delivery, or a merge.
+impl From<Received> for Responded {
+    ghost from_gives = { λ given x. x ≡ received_as given };
 
-// Files a counter file.
-fn file_counter(register: Register, file: &[u8]) -> Responded
-    ensures { result ≡ change_made register Counter file.now }
-{
-    filed(counter::filings::file_counter(register, file))
-}
-
-// What a delivery gives, filed or merged.
-fn received(given: Received) -> Responded
-    ensures { result ≡ received_as given }
-{
-    let after = given.register;
-    let outcome = given.outcome;
-    let mark = given.mark;
-    Responded {
-        register: after,
-        response: Response::Received { outcome, mark },
-    }
-}
-
-// Files a delivery.
-fn file_delivery(register: Register, file: &[u8]) -> Responded
-    ensures { result ≡ change_made register Delivery file.now }
-{
-    received(register.file_delivery(file))
-}
-
-// Merges a delivery with the held one.
-fn merge_delivery(register: Register, file: &[u8]) -> Responded
-    ensures { result ≡ change_made register Merge file.now }
-{
-    received(register.merge_delivery(file))
-}
-
-// Clears.
-fn clear(register: Register) -> Responded
-    ensures { result ≡ responded cleared Cleared }
-{
-    Responded {
-        register: register.clear(),
-        response: Response::Cleared,
+    fn from(given: Received) -> Responded {
+        Responded {
+            register: given.register,
+            response: Response::Received(given.receipt),
+        }
     }
 }
 
@@ -163,21 +114,14 @@ fn make(register: Register, change: Change, file: &[u8]) -> Responded
     ensures { result ≡ change_made register change file.now }
 {
     match change {
-        Change::Clear => clear(register),
-        Change::Model => file_model(register, file),
-        Change::Counter => file_counter(register, file),
-        Change::Delivery => file_delivery(register, file),
-        Change::Merge => merge_delivery(register, file),
-    }
-}
-
-// Changes nothing.
-fn keep(register: Register) -> Responded
-    ensures { result ≡ responded register Silence }
-{
-    Responded {
-        register,
-        response: Response::Silence,
+        Change::Clear => Responded {
+            register: register.clear(),
+            response: Response::Cleared,
+        },
+        Change::Model => register.file_model(file).into(),
+        Change::Counter => counter::filings::file_counter(register, file).into(),
+        Change::Delivery => register.file_delivery(file).into(),
+        Change::Merge => register.merge_delivery(file).into(),
     }
 }
 
@@ -186,9 +130,10 @@ pub fn change(register: Register, said: Said, file: &[u8]) -> Responded
     ensures { result ≡ changed_by register said file.now }
 {
     match said {
-        Said::Nothing => keep(register),
-        Said::Unclear => keep(register),
         Said::Change(change) => make(register, change, file),
-        Said::Question(_) => keep(register),
+        _ => Responded {
+            register,
+            response: Response::Silence,
+        },
     }
 }

@@ -1,5 +1,5 @@
 -- A desk through a piece of input: what holds after each byte.
-use Prim.Native.Nat.{ℕ, zero, suc, ◌+◌, ◌*◌, ◌/◌, ◌≤◌, ◌<◌, min}
+use Prim.Native.Nat.{ℕ, ◌+◌, ◌*◌, ◌/◌, ◌≤◌, ◌<◌, min}
 use native.Mathlib.Numerals.{add-one}
 use native.Mathlib.Omega.{arith}
 use mathlib.Core.Bool.{Bool, true, false, cond}
@@ -21,7 +21,7 @@ use Rattle.script.specs.declared.Responded.{Responded}
 use Rattle.script.specs.Clauses.{may_change, answered_from}
 use Rattle.script.proofs.Responses.{changed_register, changed_text, kept_register, kept_text}
 use Rattle.script.specs.Script.{asked_by}
-use Rattle.script.specs.Serving.{kept_bytes, State, Byte, register_by, reply_by, longer, line_ended, byte_taken, printed_by, Serves}
+use Rattle.script.specs.Serving.{kept_bytes, State, Byte, register_by, reply_by, byte_taken, printed_by, Serves}
 use Rattle.service.specs.Clauses.{kept_count, kept_line, Performed}
 use Rattle.script.proofs.Printing.{serves_none, serves_then, serves_byte}
 

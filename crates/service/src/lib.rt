@@ -1,7 +1,7 @@
 // A desk: a register that takes its calls from lines of text. Input comes in pieces of any size, and lines go across pieces.
 #![tactic(auto)]
 
-ghost use Rattle.std.specs.Prelude.{◌≡◌, min, true};
+ghost use Rattle.std.specs.Prelude.{◌≡◌, true};
 ghost use Rattle.io.specs.Counts.{IsPrefixLen};
 ghost use Rattle.script.specs.Script.{reads_file};
 ghost use Rattle.script.specs.Serving.{at_start};
@@ -44,13 +44,6 @@ pub fn opened() -> Desk
         line: [0u8; KEPT],
         kept: 0,
     }
-}
-
-// The lesser of two numbers.
-fn least(a: usize, b: usize) -> usize
-    ensures { result ≡ min a b }
-{
-    if a < b { a } else { b }
 }
 
 // Where the name of a file stands in the line of a change: after its word and a space.
@@ -141,14 +134,14 @@ fn finished(
 pub fn serve(rt: &(impl Files + Eprint), desk: Desk, piece: &[u8], out: &mut [u8]) -> Served
     ensures { Took desk piece.now out.old out.new result }
 {
-    let taken = least(piece.len(), out.len() / REPLY_ROOM);
+    let taken = piece.len().min(out.len() / REPLY_ROOM);
     let mut register = desk.register;
     let mut v = register.view();
     let mut lists = register.lists();
     let mut sizes = none();
     let mut starts = [0u16; STARTS];
     let mut line = desk.line;
-    let mut kept = least(desk.kept, KEPT);
+    let mut kept = desk.kept.min(KEPT);
     let mut at = 0;
     for i in 0..taken {
         let byte = piece[i];
@@ -160,13 +153,11 @@ pub fn serve(rt: &(impl Files + Eprint), desk: Desk, piece: &[u8], out: &mut [u8
         if may_change(said) {
             let changed = perform(rt, register, said, &line[..kept]);
             kept = 0;
-            let after = changed.register;
-            register = after;
+            register = changed.register;
             v = register.view();
             lists = register.lists();
             sizes = none();
-            let response = changed.response;
-            at = put_response(out, at, response);
+            at = put_response(out, at, changed.response);
             continue;
         }
         kept = 0;

@@ -3,7 +3,7 @@ use Prim.Native.Nat.{ℕ, zero, suc, ◌+◌, ◌-◌, ◌*◌, ◌/◌, ◌%◌
 use native.Mathlib.Nat.{le_antisymm, le_trans, mul-div-mul_right, div-add-mod', zero-mul, zero-div}
 use native.Mathlib.Numerals.{add-one}
 use native.Mathlib.Omega.{arith}
-use mathlib.Core.Bool.{Bool, true, false}
+use mathlib.Core.Bool.{Bool}
 use mathlib.Core.List.{List}
 use mathlib.Core.Path.{◌≡◌, refl, sym, ap, ap₂, ◌∙◌}
 use lib.Dec.{lit<}
@@ -41,14 +41,6 @@ unfolding share
 share_none u y le =
     let e : u * sum_unit - y ≡ 0 = omega arith in
     rw (e, zero-mul) (sym (zero-div (u * sum_unit)))
-
-pub share_dead : (t : Bool) (u y : ℕ) → t ≡ false → chance_unit ≡ share_at t u y
-unfolding share_at
-share_dead t u y e = rw e
-
-pub share_live : (t : Bool) (u y : ℕ) → t ≡ true → share u y ≡ share_at t u y
-unfolding share_at
-share_live t u y e = rw e
 
 -- The mark and the numbers read at exit q of row number k, which is (k / g, k % g): the part in the margin.
 module _ (b : List ℕ) (s g : ℕ) (a u : List ℕ) (k q : ℕ) {x n e y : ℕ} {t : Bool} (et : t ≡ is_live x) (ex : x ≡ bit_of (get_or a k 0) q)

@@ -12,6 +12,7 @@ use model::sizes::Sizes;
 use rows::STARTS;
 
 // u − f(u) at the entry of a row, by its number, with exit q.
+#[tactic(auto, using(model::proofs::Accepted::sized_fits))]
 pub fn gap(
     model: &[u8],
     starts: &[u16; STARTS],

@@ -32,6 +32,7 @@ fn share(u: u64, y: u64) -> u64
 }
 
 // An entry's part in the margin, by whether it is live. A dead one leaves the margin as it is.
+#[tactic(auto, unfolding(ppda::specs::Margin::share_at))]
 fn share_at(live: bool, u: u64, y: u64) -> u64
     requires { u ≤ most_chance }
     ensures { result ≡ share_at live u y }
@@ -40,6 +41,7 @@ fn share_at(live: bool, u: u64, y: u64) -> u64
 }
 
 // The least of `least` and the shares of a row, by its number.
+#[tactic(auto, using(model::proofs::Accepted::sized_fits))]
 fn least_of_row(
     model: &[u8],
     starts: &[u16; STARTS],
@@ -52,20 +54,17 @@ fn least_of_row(
     requires { Indexed model.now n starts.now × Chances n uppers.now × (row < rows_in n.states n.symbols) }
     ensures { result ≡ least_in_row least model.now n live.now uppers.now row }
 {
-    let s = n.states;
     let mut least = least;
-    let mut q = 0;
-    while q < s {
-        let e = n.entry_in(row, q);
+    for q in 0..n.states {
+        let u = value_at(uppers, n.entry_in(row, q));
         let y = f(model, starts, uppers, n, row, q);
-        let share = share_at(is_live(mark(live, row, q)), value_at(uppers, e), y);
-        least = if share < least { share } else { least };
-        q += 1;
+        least = least.min(share_at(is_live(mark(live, row, q)), u, y));
     }
     least
 }
 
 // The margin: the least share over the live entries, and 2^20 where nothing is live.
+#[tactic(auto, using(model::proofs::Accepted::sized_fits))]
 pub fn margin_of(
     model: &[u8],
     starts: &[u16; STARTS],
@@ -76,12 +75,9 @@ pub fn margin_of(
     requires { Indexed model.now n starts.now × Chances n uppers.now }
     ensures { result ≡ least_share model.now n.states n.symbols live.now uppers.now }
 {
-    let rows = n.rows();
     let mut least = CHANCE_UNIT;
-    let mut k = 0;
-    while k < rows {
+    for k in 0..n.rows() {
         least = least_of_row(model, starts, live, uppers, n, k, least);
-        k += 1;
     }
     least
 }

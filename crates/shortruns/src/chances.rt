@@ -19,12 +19,7 @@ fn certain(steps: usize) -> u64
     requires { steps ≤ most_steps }
     ensures { result ≡ weight_unit ^ steps }
 {
-    match steps {
-        0 => 1,
-        1 => WEIGHT_UNIT,
-        2 => WEIGHT_UNIT * WEIGHT_UNIT,
-        _ => WEIGHT_UNIT * WEIGHT_UNIT * WEIGHT_UNIT,
-    }
+    WEIGHT_UNIT.pow(steps as u32)
 }
 
 // The chance of having returned through q where no symbol is left in this state: `whole` in q, else 0.
@@ -37,6 +32,7 @@ fn returned(state: usize, q: usize, whole: u64) -> u64
 // The chance of the entry of a row, by its number, with exit q: over the row's records. A record that pushes more symbols than steps are left adds nothing, since each
 // symbol takes a step.
 #[cycle(chance_chance_of_pair)]
+#[tactic(auto, using(model::proofs::Accepted::sized_fits))]
 pub fn chance(
     model: &[u8],
     starts: &[u16; STARTS],
@@ -53,25 +49,22 @@ pub fn chance(
         return 0;
     }
     let left = steps - 1;
-    let end = starts[row + 1] as usize;
     let whole = certain(left);
+    let start = usize::from(starts[row]);
+    let end = usize::from(starts[row + 1]);
     let mut sum = 0;
-    for i in starts[row] as usize..end {
-        let l = pushes(model, i);
-        if left < l {
-            continue;
-        }
-        let k = weight(model, i);
-        if l == 2 {
-            sum += k * chance_of_pair(model, starts, n, left, i, q);
+    for i in start..end {
+        let pushed = pushes(model, i);
+        if left < pushed {
             continue;
         }
         let r = target(model, i);
-        if l == 1 {
-            sum += k * chance(model, starts, n, left, n.row(r, top(model, i)), q);
-            continue;
-        }
-        sum += k * returned(r, q, whole);
+        let after = match pushed {
+            0 => returned(r, q, whole),
+            1 => chance(model, starts, n, left, n.row(r, top(model, i)), q),
+            _ => chance_of_pair(model, starts, n, left, i, q),
+        };
+        sum += weight(model, i) * after;
     }
     sum
 }
@@ -94,17 +87,14 @@ fn chance_of_pair(
     let s = n.states;
     let first = n.row(target(model, i), top(model, i));
     let x = under(model, i);
-    let end = s * steps;
-    let mut k = s;
     let mut sum = 0;
-    while k < end {
+    for k in s..s * steps {
         let j = k / s;
         let t = k % s;
         let within = chance(model, starts, n, j, first, t);
         let before = chance(model, starts, n, j - 1, first, t);
         sum += (within - WEIGHT_UNIT * before)
             * chance(model, starts, n, steps - j, n.row(t, x), q);
-        k += 1;
     }
     sum
 }

@@ -10,6 +10,7 @@ ghost use Rattle.shortruns.specs.Short.{few_steps};
 pub const MOST_STEPS: usize = 3;
 
 // Whether so many steps may be asked for.
+#[tactic(auto, unfolding(crate::specs::Short::few_steps))]
 pub fn few_steps(steps: usize) -> bool
     ensures { result ≡ few_steps steps }
 {

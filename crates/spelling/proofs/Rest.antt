@@ -1,33 +1,32 @@
 -- The laws of the words after the first: a file's name is all of the rest after its space, and numbers are found one word after the other.
-use Prim.Native.Nat.{ℕ, ◌+◌, ◌-◌, ◌≤◌, ◌<◌}
+use Prim.Native.Nat.{ℕ, suc, ◌+◌, ◌-◌, ◌≤◌, ◌<◌}
 use native.Mathlib.Omega.{arith}
-use mathlib.Core.Bool.{Bool, true, false, cond, ◌&&◌, and-true, and-false}
-use mathlib.Core.List.{List, [], ◌∷◌}
+use mathlib.Core.Bool.{Bool, true, false, cond, ◌&&◌, and-false}
+use mathlib.Core.List.{List, [], ◌∷◌, map, ◌++◌}
+use mathlib.Core.Logic.{◌⊎◌}
 use mathlib.Core.Path.{◌≡◌, refl, sym, ap, ◌∙◌}
 use lib.Dec.{eqb, leb}
-use lib.ListN.{length, take, drop, length-drop}
-use lib.Seq.{take_all, take-length}
-use borrow.Author.Tests.{eqb-true, eqb-false, le-leb, lt-leb}
+use lib.ListN.{length, take, drop, set, length-drop}
+use lib.Seq.{take_all}
+use borrow.Author.Tests.{eqb-true, eqb-false, ne_eqb}
+use Rattle.std.specs.List.{list_all}
+use Rattle.std.specs.Prelude.{Option, Some, None, option_map}
+use Rattle.std.specs.Bool.{then_some}
+use Rattle.std.proofs.Common.{append_assoc}
+use Rattle.std.proofs.Math.Dec.{eqb-suc-suc}
+use Rattle.std.proofs.lemmas.Grind.{take-set_at}
+use Rattle.std.proofs.lemmas.Bool.Decides.{nat_tests}
+use Rattle.std.proofs.lemmas.List.{append-nil}
 use Rattle.text.specs.Reading.{pieces, number_in}
-use Rattle.spelling.specs.declared.arguments.Numbers.{Numbers}
-use Rattle.spelling.specs.declared.arguments.Numbers.TheVariants.{Other}
-use Rattle.spelling.specs.declared.Number.{Number}
-use Rattle.spelling.specs.declared.Number.TheVariants.{Is, Not}
-use Rattle.spelling.specs.Spelling.{every, is_digit, is_number, is_name, is_file}
-use Rattle.spelling.specs.Clauses.{word_end, arguments_in, number_as, two_of, three_of, four_of, after_second, after_first, numbers_of}
-use Rattle.spelling.proofs.Words.{end_within, pieces_split, pieces_one, pieces_more, digits_end}
+use Rattle.spelling.specs.Spelling.{is_number, is_name, is_file}
+use Rattle.spelling.specs.Clauses.{word_end, arguments_in, number_as, first_number, numbers_of}
+use Rattle.spelling.proofs.Words.{end_within, pieces_split, pieces_one, pieces_more}
 
 -- ---- a file's name
 
 -- The part of a text from byte i on, as the code takes it.
 pub part_from : (i : ℕ) (l : List ℕ) → take (length l - i) (drop i l) ≡ drop i l
 part_from i l = take_all (length l - i) (drop i l) (rw length-drop (omega arith))
-
--- The words of a rest that is not empty are those after its space.
-rest_words : (rest : List ℕ) → 0 < length rest → arguments_in rest ≡ pieces 32 (drop 1 rest)
-unfolding arguments_in
-rest_words [] h = absurd (omega arith)
-rest_words (x ∷ xs) h = refl
 
 -- A text is one name where it has no space, and 1 to 255 bytes.
 pub name_of : (text : List ℕ) → is_file (pieces 32 text) ≡ (eqb (word_end text) (length text) && is_name text)
@@ -40,114 +39,99 @@ name_of text = go (eqb (word_end text) (length text)) refl
         let h : word_end text < length text = omega (arith, end_within text, n) in
         rw (pieces_more text h, pieces_split (drop (word_end text + 1) text))
 
-file_words : (rest : List ℕ) → 0 < length rest
-    → is_file (arguments_in rest) ≡ (eqb (word_end (drop 1 rest)) (length (drop 1 rest)) && is_name (drop 1 rest))
-file_words rest h = ap is_file (rest_words rest h) ∙ name_of (drop 1 rest)
+-- So a rest that is empty names no file, and any other one does where what stands after its space is one word of a name's length.
+pub file_none : (rest : List ℕ) → length rest ≡ 0 → is_file (arguments_in rest) ≡ false
+unfolding arguments_in
+file_none [] h = refl
+file_none (x ∷ xs) h = absurd (omega arith)
 
--- So too short a rest names no file, too long a one neither, and any other one does where it is one word.
-pub file_short : (rest : List ℕ) → length rest < 2 → is_file (arguments_in rest) ≡ false
-unfolding arguments_in is_name pieces
-file_short [] h = refl
-file_short (x ∷ []) h = refl
-file_short (x ∷ y ∷ xs) h = absurd (omega arith)
+module _ (rest text : List ℕ) (x : ℕ) (parts : rest ≡ x ∷ text) where
+  rest_words : arguments_in rest ≡ pieces 32 text
+  unfolding arguments_in
+  rest_words = rw parts
 
-pub file_long : (rest : List ℕ) → 256 < length rest → is_file (arguments_in rest) ≡ false
-unfolding is_name
-file_long rest h =
-    file_words rest (omega arith)
-    ∙ rw (le-leb 1 (length (drop 1 rest)) (rw length-drop (omega arith)), lt-leb (length (drop 1 rest)) 255 (rw length-drop (omega arith)))
-    (and-false (eqb (word_end (drop 1 rest)) (length (drop 1 rest))))
+  file_by : is_file (arguments_in rest) ≡ (eqb (word_end text) (length text) && (leb 1 (length text) && leb (length text) 255))
+  unfolding is_name
+  file_by = ap is_file rest_words ∙ name_of text
 
-pub file_by : (rest text : List ℕ) → text ≡ drop 1 rest → 2 ≤ length rest → length rest ≤ 256
-    → is_file (arguments_in rest) ≡ eqb (word_end text) (length text)
-unfolding is_name
-file_by rest text e h k =
-    file_words rest (omega arith)
-    ∙ rw (e, le-leb 1 (length (drop 1 rest)) (rw length-drop (omega arith)), le-leb (length (drop 1 rest)) 255 (rw length-drop (omega arith)))
-    (and-true (eqb (word_end (drop 1 rest)) (length (drop 1 rest))))
+  pub file_sized : 1 ≤ length text → length text ≤ 255 → is_file (arguments_in rest) ≡ eqb (word_end text) (length text)
+  file_sized some most = file_by ∙ grind (arith, nat_tests)
+
+  pub file_unsized : (length text < 1) ⊎ (255 < length text) → is_file (arguments_in rest) ≡ false
+  file_unsized none = file_by ∙ grind (arith, nat_tests)
 
 -- ---- numbers
 
--- A text with a space in it is no number.
-spaced_not : (text : List ℕ) → word_end text < length text → number_as text ≡ Not
-unfolding number_as is_number
-spaced_not text h = go (every is_digit text) refl
+-- No words, and those of any other rest by its parts as the code takes them.
+pub next_none : (rest : List ℕ) → length rest ≡ 0 → first_number (arguments_in rest) ≡ None
+unfolding arguments_in
+next_none [] h = refl
+next_none (x ∷ xs) h = absurd (omega arith)
+
+pub next_by : (rest text word left : List ℕ) (x e : ℕ) → rest ≡ x ∷ text → e ≡ word_end text → word ≡ take e text → left ≡ drop e text
+    → first_number (arguments_in rest) ≡ option_map (λ n. (n, arguments_in left)) (number_as word)
+next_by rest text word left x e parts end first others =
+    ap first_number (rest_words rest text x parts ∙ pieces_split text) ∙ rw (first, others, end)
+
+-- Numbers in front of others.
+abbrev pub after : List ℕ → Option (List ℕ) → Option (List ℕ)
+after ns found = option_map (λ more. ns ++ more) found
+
+-- The numbers of a first word, where it is one, and of n words after it.
+abbrev pub with_first : ℕ → Option (ℕ × List (List ℕ)) → Option (List ℕ)
+with_first n None = None
+with_first n (Some found) = after (found.0 ∷ []) (numbers_of n found.1)
+
+-- Words of another number are no n numbers.
+pub numbers_other : (n : ℕ) (ws : List (List ℕ)) → (length ws ≡ n → ⊥) → numbers_of n ws ≡ None
+unfolding numbers_of
+numbers_other n ws other = rw (ne_eqb (length ws) n other)
+
+numbers_step : (n : ℕ) (ws : List (List ℕ)) → numbers_of (suc n) ws ≡ with_first n (first_number ws)
+unfolding numbers_of number_as
+numbers_step n [] = numbers_other (suc n) [] (omega arith)
+numbers_step n (w ∷ ws) = rw (eqb-suc-suc (length ws) n) (by_first (is_number w) refl)
   where
-    go : (t : Bool) → every is_digit text ≡ t → cond ((leb 1 (length text) && leb (length text) 9) && t) (Is (number_in text)) Not ≡ Not
-    go true e = absurd (omega (arith, digits_end text e))
-    go false e = rw (and-false (leb 1 (length text) && leb (length text) 9))
+    both : (t : Bool) → cond t (Some (number_in w ∷ map number_in ws)) None ≡ after (number_in w ∷ []) (cond t (Some (map number_in ws)) None)
+    both true = refl
+    both false = refl
 
-four_not : (x y z : Number) → four_of x y z Not ≡ Other
-four_not (Is a) (Is b) (Is c) = refl
-four_not (Is a) (Is b) Not = refl
-four_not (Is a) Not z = refl
-four_not Not y z = refl
+    by_first : (t : Bool) → is_number w ≡ t
+        → cond (eqb (length ws) n && (is_number w && list_all is_number ws)) (Some (number_in w ∷ map number_in ws)) None
+        ≡ with_first n (option_map (λ m. (m, ws)) (cond (is_number w) (Some (number_in w)) None))
+    by_first true e = rw e (both (eqb (length ws) n && list_all is_number ws))
+    by_first false e = rw (e, and-false (eqb (length ws) n))
 
-module _ (text : List ℕ) (e : ℕ) (end : e ≡ word_end text) where
-  -- A text that is one word, and one of more.
-  one_word : e ≡ length text → pieces 32 text ≡ take e text ∷ []
-  one_word all = rw (pieces_one text (sym end ∙ all), all, take-length)
+-- No words are left where the rest is empty.
+numbers_none : (left : List ℕ) → numbers_of 0 (arguments_in left) ≡ cond (eqb (length left) 0) (Some []) None
+unfolding numbers_of arguments_in
+numbers_none [] = refl
+numbers_none (x ∷ xs) = rw (pieces_split xs, ne_eqb (suc (length (arguments_in (drop (word_end xs) xs)))) 0 (omega arith), ne_eqb (suc (length xs)) 0 (omega arith))
 
-  more_words : e < length text → pieces 32 text ≡ take e text ∷ pieces 32 (drop (e + 1) text)
-  more_words h = rw end (pieces_more text (rw end at h))
+after_both : (xs ys : List ℕ) (found : Option (List ℕ)) → after xs (after ys found) ≡ after (xs ++ ys) found
+after_both xs ys None = refl
+after_both xs ys (Some more) = ap Some (sym (append_assoc xs ys more))
 
-  -- After two numbers: one word that is the text, or a word and what stands after its space as another.
-  module _ (x y : Number) where
-    third_and_rest : e < length text
-        → after_second x y (pieces 32 text) ≡ four_of x y (number_as (take e text)) (number_as (drop (e + 1) text))
-    unfolding after_second
-    third_and_rest h = rw (more_words h) (go (eqb (word_end fourth) (length fourth)) refl)
-      where
-        fourth : List ℕ
-        fourth = drop (e + 1) text
+-- What the code has found when it is to read number i.
+module _ (n i : ℕ) (ws : List (List ℕ)) (xs left : List ℕ) (size : length xs ≡ n)
+    (so_far : numbers_of n ws ≡ after (take i xs) (numbers_of (n - i) (arguments_in left))) where
+  next : i < n → numbers_of n ws ≡ after (take i xs) (with_first (n - (i + 1)) (first_number (arguments_in left)))
+  next h =
+      let one : n - i ≡ suc (n - (i + 1)) = omega arith in
+      so_far ∙ rw one (ap (after (take i xs)) (numbers_step (n - (i + 1)) (arguments_in left)))
 
-        go : (t : Bool) → eqb (word_end fourth) (length fourth) ≡ t
-            → after_second x y (take e text ∷ pieces 32 fourth) ≡ four_of x y (number_as (take e text)) (number_as fourth)
-        go true q = rw (pieces_one fourth (eqb-true (word_end fourth) (length fourth) q))
-        go false q =
-            let more : word_end fourth < length fourth = omega (arith, end_within fourth, eqb-false (word_end fourth) (length fourth) q) in
-            rw (pieces_more fourth more, pieces_split (drop (word_end fourth + 1) fourth), spaced_not fourth more) (sym (four_not x y (number_as (take e text))))
+  pub numbers_fail : i < n → first_number (arguments_in left) ≡ None → numbers_of n ws ≡ None
+  numbers_fail h e = next h ∙ rw e
 
-    module _ {z : Number} (third : z ≡ number_as (take e text)) where
-      pub third_last : e ≡ length text → {r : Numbers} → r ≡ three_of x y z → r ≡ after_second x y (pieces 32 text)
-      unfolding after_second
-      third_last all made = made ∙ rw (third, one_word all)
+  pub numbers_more : i < n → {x : ℕ} {vs : List (List ℕ)} → first_number (arguments_in left) ≡ Some (x, vs)
+      → numbers_of n ws ≡ after (take (i + 1) (set xs i x)) (numbers_of (n - (i + 1)) vs)
+  numbers_more h {x} {vs} e = next h ∙ rw (e, take-set_at xs i (i + 1) x refl (omega arith)) (after_both (take i xs) (x ∷ []) (numbers_of (n - (i + 1)) vs))
 
-      pub fourth_last : e ≤ length text → (e ≡ length text → ⊥) → {w : Number} → w ≡ number_as (take (length text - (e + 1)) (drop (e + 1) text))
-          → {r : Numbers} → r ≡ four_of x y z w → r ≡ after_second x y (pieces 32 text)
-      fourth_last within n fourth made =
-          made ∙ rw (third, fourth, part_from (e + 1) text) (sym (third_and_rest (omega (arith, n))))
-
-  -- After a first number: one word that is the text, or a word and those after its space.
-  module _ (x : Number) {y : Number} (second : y ≡ number_as (take e text)) where
-    pub second_last : e ≡ length text → {r : Numbers} → r ≡ two_of x y → r ≡ after_first x (pieces 32 text)
-    unfolding after_first
-    second_last all made = made ∙ rw (second, one_word all)
-
-    pub second_found : e ≤ length text → (e ≡ length text → ⊥) → {r : Numbers}
-        → r ≡ after_second x y (pieces 32 (take (length text - (e + 1)) (drop (e + 1) text))) → r ≡ after_first x (pieces 32 text)
-    unfolding after_first
-    second_found within n made =
-        made ∙ rw (second, part_from (e + 1) text, more_words (omega (arith, n)), pieces_split (drop (e + 1) text))
-
--- The numbers of no words, of one, and of more.
-pub numbers_none : (rest : List ℕ) → length rest ≡ 0 → numbers_of (arguments_in rest) ≡ Other
-unfolding arguments_in numbers_of
-numbers_none [] h = refl
-numbers_none (x ∷ xs) h = absurd (omega arith)
-
-module _ (rest text : List ℕ) (e : ℕ) (part : text ≡ drop 1 rest) (some : length rest ≡ 0 → ⊥) (end : e ≡ word_end text) where
-  words_are : arguments_in rest ≡ pieces 32 text
-  words_are = rest_words rest (omega (arith, some)) ∙ ap (pieces 32) (sym part)
-
-  pub numbers_one : e ≡ length text → numbers_of (arguments_in rest) ≡ Other
-  unfolding numbers_of after_first
-  numbers_one all = rw (words_are, pieces_one text (sym end ∙ all))
-
-  numbers_more : e < length text → numbers_of (arguments_in rest) ≡ after_first (number_as (take e text)) (pieces 32 (drop (e + 1) text))
-  unfolding numbers_of
-  numbers_more h = rw (words_are, end, pieces_more text (rw end at h))
-
-  pub first_found : e ≤ length text → (e ≡ length text → ⊥) → {x : Number} → x ≡ number_as (take e text) → {r : Numbers}
-      → r ≡ after_first x (pieces 32 (take (length text - (e + 1)) (drop (e + 1) text))) → r ≡ numbers_of (arguments_in rest)
-  first_found within n first made = made ∙ rw (first, part_from (e + 1) text) (sym (numbers_more (omega (arith, n))))
+  pub numbers_end : i ≡ n → numbers_of n ws ≡ then_some (eqb (length left) 0) xs
+  numbers_end e =
+      let none : n - i ≡ 0 = omega arith in
+      so_far ∙ rw (none, numbers_none left, take_all i xs (omega arith)) (by_rest (eqb (length left) 0))
+    where
+      by_rest : (t : Bool) → after xs (cond t (Some []) None) ≡ then_some t xs
+      by_rest true = ap Some (append-nil xs)
+      by_rest false = refl

@@ -1,10 +1,7 @@
 -- The words of a line as the code finds them.
-use Rattle.std.specs.Prelude.{ℕ, suc, cond, List, [], ◌∷◌, eqb}
+use Rattle.std.specs.Prelude.{ℕ, suc, cond, ◌&&◌, List, [], ◌∷◌, Option, Some, None, option_map, map, length, eqb}
+use Rattle.std.specs.List.{list_all}
 use Rattle.text.specs.Reading.{pieces, number_in}
-use Rattle.spelling.specs.declared.arguments.Numbers.{Numbers}
-use Rattle.spelling.specs.declared.arguments.Numbers.TheVariants.{Two, Three, Four, Other}
-use Rattle.spelling.specs.declared.Number.{Number}
-use Rattle.spelling.specs.declared.Number.TheVariants.{Is, Not}
 use Rattle.spelling.specs.Spelling.{is_number}
 
 -- Where the first word of a text ends: at a space (32), or at the end of the text.
@@ -18,39 +15,14 @@ arguments_in [] = []
 arguments_in (x ∷ xs) = pieces 32 xs
 
 -- A word as a number.
-unfoldable pub number_as : List ℕ → Number
-number_as w = cond (is_number w) (Is (number_in w)) Not
+unfoldable pub number_as : List ℕ → Option ℕ
+number_as w = cond (is_number w) (Some (number_in w)) None
 
-abbrev pub two_of : Number → Number → Numbers
-two_of (Is a) (Is b) = Two a b
-two_of (Is a) Not = Other
-two_of Not y = Other
+-- The first word as a number, with the words after it.
+abbrev pub first_number : List (List ℕ) → Option (ℕ × List (List ℕ))
+first_number [] = None
+first_number (w ∷ ws) = option_map (λ n. (n, ws)) (number_as w)
 
-abbrev pub three_of : Number → Number → Number → Numbers
-three_of (Is a) (Is b) (Is c) = Three a b c
-three_of (Is a) (Is b) Not = Other
-three_of (Is a) Not z = Other
-three_of Not y z = Other
-
-abbrev pub four_of : Number → Number → Number → Number → Numbers
-four_of (Is a) (Is b) (Is c) (Is d) = Four a b c d
-four_of (Is a) (Is b) (Is c) Not = Other
-four_of (Is a) (Is b) Not w = Other
-four_of (Is a) Not z w = Other
-four_of Not y z w = Other
-
--- Two numbers with the words after them, a first number with those after it, and all words, as numbers.
-unfoldable pub after_second : Number → Number → List (List ℕ) → Numbers
-after_second x y [] = Other
-after_second x y (c ∷ []) = three_of x y (number_as c)
-after_second x y (c ∷ d ∷ []) = four_of x y (number_as c) (number_as d)
-after_second x y (c ∷ d ∷ w ∷ ws) = Other
-
-unfoldable pub after_first : Number → List (List ℕ) → Numbers
-after_first x [] = Other
-after_first x (b ∷ []) = two_of x (number_as b)
-after_first x (b ∷ c ∷ ws) = after_second x (number_as b) (c ∷ ws)
-
-unfoldable pub numbers_of : List (List ℕ) → Numbers
-numbers_of [] = Other
-numbers_of (a ∷ ws) = after_first (number_as a) ws
+-- The numbers that words are: n words, each of which is a number.
+unfoldable pub numbers_of : ℕ → List (List ℕ) → Option (List ℕ)
+numbers_of n ws = cond (eqb (length ws) n && list_all is_number ws) (Some (map number_in ws)) None

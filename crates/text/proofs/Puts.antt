@@ -1,24 +1,18 @@
--- Text in a buffer: texts that are put one after the other, by a loop too, are their join, and a loop that copies the text puts it.
+-- Text in a buffer: texts that are put one after the other, by a loop too, are their join.
 use Prim.Native.Nat.{ℕ, ◌+◌, ◌*◌, ◌≤◌, ◌<◌}
 use native.Mathlib.Numerals.{add-one}
 use native.Mathlib.Omega.{arith}
-use mathlib.Core.List.{List, [], ◌∷◌, ◌++◌, map, append_assoc, append-nil}
+use mathlib.Core.List.{List, [], ◌∷◌, ◌++◌, append_assoc, append-nil}
 use mathlib.Core.Path.{◌≡◌, refl, sym, ap, subst, ◌∙◌}
-use lib.ListN.{length, take, set, get_or, length-append, length-set}
-use lib.Seq.{take_all, paste, length-paste, take-paste, take-suc, take-suc-set}
+use lib.ListN.{length, take, get_or, length-append}
+use lib.Seq.{take-suc}
 use Rattle.text.specs.Decimal.{decimal}
-use Rattle.text.specs.Texts.{fields}
 use Rattle.text.specs.Clauses.{spaced, Put}
 use Rattle.walks.specs.Lists.{each}
 
 -- Nothing.
 pub put_none : (a : List ℕ) (at : ℕ) → Put a a at at []
 put_none a at = record { size = refl; long = omega arith; puts = sym (append-nil (take at a)) }
-
--- One byte.
-pub put_one : {a b : List ℕ} {at v : ℕ} → at < length a → b ≡ set a at v → Put a b at (at + 1) (v ∷ [])
-put_one {a} {b} {at} {v} fits e =
-    rw e (record { size = length-set a at v; long = refl; puts = rw add-one (take-suc-set a at v fits) })
 
 -- A text, and then another.
 pub put_then : {a b c : List ℕ} {at m e : ℕ} {t u : List ℕ} → Put a b at m t → Put b c m e u → Put a c at e (t ++ u)
@@ -63,17 +57,6 @@ joined_all {h} {n = n} {i = i} so done =
 pub joined_as : (h : ℕ → List ℕ) {n m : ℕ} {a b : List ℕ} {at e : ℕ} → n ≡ m → Put a b at e (each n h) → Put a b at e (each m h)
 joined_as h all text = put_as (ap (λ j. each j h) all) text
 
--- A whole copy.
-pub put_paste : {a b : List ℕ} (at : ℕ) (t : List ℕ) (i : ℕ) → at + length t ≤ length a → i ≡ length t
-    → b ≡ paste a at t i → Put a b at (at + length t) t
-put_paste {a} at t i fits all e =
-    rw (e, all)
-    (record {
-      size = length-paste a at t (length t) (omega arith) (omega arith);
-      long = refl;
-      puts = take-paste a at t (length t) (omega arith) (omega arith) ∙ rw (take_all (length t) t (omega arith));
-    })
-
 -- ---- fields
 
 spaced_append : (l k : List ℕ) → spaced (l ++ k) ≡ spaced l ++ spaced k
@@ -84,29 +67,13 @@ spaced_append (n ∷ l) k = ap (λ t. 32 ∷ t) (rw (spaced_append l k, append_a
 spaced_more : (l : List ℕ) (i : ℕ) → i < length l → spaced (take (i + 1) l) ≡ spaced (take i l) ++ (32 ∷ decimal (get_or l i 0))
 spaced_more l i h = rw (add-one, take-suc l i 0, spaced_append) (ap (λ t. spaced (take i l) ++ (32 ∷ t)) (append-nil (decimal (get_or l i 0))))
 
--- Numbers and then fields are the fields of all.
-spaced_fields : (l : List ℕ) (xs : List (List ℕ)) → spaced l ++ fields xs ≡ fields (map decimal l ++ xs)
-spaced_fields [] xs = refl
-spaced_fields (n ∷ l) xs = ap (λ t. 32 ∷ t) (rw append_assoc (ap (λ t. decimal n ++ t) (spaced_fields l xs)))
-
 -- A loop that puts the numbers l, after i turns.
 pub record Spaced (l before after : List ℕ) (at end i : ℕ) : Type 0 where
   pub to : i ≤ length l
   pub most : end ≤ at + 21 * i
   pub some : Put before after at end (spaced (take i l))
 
-pub spaced_none : (l a : List ℕ) (at : ℕ) → Spaced l a a at at 0
-spaced_none l a at = record { to = omega arith; most = omega arith; some = put_none a at }
-
 pub spaced_one : {l a b c : List ℕ} {at m e i : ℕ} → Spaced l a b at m i → i < length l
     → Put b c m e (32 ∷ decimal (get_or l i 0)) × (e ≤ m + 21) → Spaced l a c at e (i + 1)
 spaced_one {l} {i = i} so turn field =
     record { to = omega arith; most = omega arith; some = put_as (sym (spaced_more l i turn)) (put_then so.some field.0) }
-
-pub spaced_all : {l a b : List ℕ} {at e i : ℕ} → Spaced l a b at e i → length l ≤ i → Put a b at e (spaced l)
-spaced_all {l} {i = i} so done = put_as (ap spaced (take_all i l done)) so.some
-
--- A word with numbers, and then the line's other fields.
-pub put_fields : {a b c : List ℕ} {at m e : ℕ} (w l : List ℕ) (xs : List (List ℕ)) → Put a b at m (w ++ spaced l)
-    → Put b c m e (fields xs) → Put a c at e (w ++ fields (map decimal l ++ xs))
-put_fields w l xs p q = put_as (rw (append_assoc, spaced_fields)) (put_then p q)

@@ -19,13 +19,9 @@ pub fn put(out: &mut [u8], at: usize, text: &[u8]) -> usize
     requires { at + length text.now ≤ length out.old }
     ensures { Put out.old out.new at result text.now }
 {
-    let n = text.len();
-    let mut i = 0;
-    while i < n {
-        out[at + i] = text[i];
-        i += 1;
-    }
-    at + n
+    let end = at + text.len();
+    out[at..end].copy_from_slice(text);
+    end
 }
 
 // Puts a number in decimal.
@@ -53,12 +49,11 @@ pub fn put_signed(out: &mut [u8], at: usize, k: i64) -> usize
     ensures { Put out.old out.new at result (32 ∷ signed k) × (result ≤ at + 22) }
 {
     if 0 <= k {
-        return put_field(out, at, k as u64);
+        return put_field(out, at, k.unsigned_abs());
     }
     let at = put_byte(out, at, b' ');
     let at = put_byte(out, at, b'-');
-    let less = (0 - (k + 1)) as u64;
-    put_number(out, at, less + 1)
+    put_number(out, at, k.unsigned_abs())
 }
 
 // Puts a word and numbers, each after a space.
@@ -67,12 +62,9 @@ pub fn put_fields(out: &mut [u8], at: usize, word: &[u8], numbers: &[u64]) -> us
     ensures put { Put out.old out.new at result (word.now ++ spaced numbers.now) }
     ensures upper_bound { result ≤ at + fields_room word.now numbers.now }
 {
-    let n = numbers.len();
     let mut at = put(out, at, word);
-    let mut i = 0;
-    while i < n {
-        at = put_field(out, at, numbers[i]);
-        i += 1;
+    for n in numbers {
+        at = put_field(out, at, *n);
     }
     at
 }

@@ -11,7 +11,6 @@ use lib.IntN.{ℤ, pos, negsuc, sub_ℕ, pos-ne-negsuc}
 use borrow.Author.Tests.{ltb-true, ltb-false, leb-true, leb-false, eqb-true, not-true, not-false, le-ltb, lt-leb, eq-eqb}
 use Rattle.ppda.specs.Units.{chance_unit, sum_unit}
 use Rattle.outcome.specs.declared.Reason.{Reason}
-use Rattle.outcome.specs.declared.Outcome.TheVariants.{Accepted, Refused}
 use Rattle.outcome.specs.Tests.{Test, plain, refusal, first, Passed, FirstFailure}
 use Rattle.walks.specs.Lists.{each}
 use Rattle.walks.proofs.Exactly.{not_lt_exactly, not_exactly, and_fails, or_fails}
@@ -33,8 +32,6 @@ use Rattle.wellformed.proofs.Accepted.{model_accepted}
 use Rattle.delivery.specs.declared.shape.Block.{Block}
 use Rattle.delivery.specs.declared.shape.Block.TheVariants.{Uppers, Lowers, Means}
 use Rattle.delivery.specs.declared.shape.Shape.{Shape}
-use Rattle.delivery.specs.declared.shape.Shaped.{Shaped}
-use Rattle.delivery.specs.declared.shape.Shaped.TheVariants.{Of, Unknown}
 use Rattle.walks.specs.Order.{rows_in, AtEntries, each_entry, each_row}
 use Rattle.delivery.specs.Shapes.{has_lowers, has_means, shape_of}
 use Rattle.delivery.specs.Numbers.{uppers_of, lowers_of, means_of}
@@ -44,6 +41,9 @@ use Rattle.layout.proofs.Says.{Says, says_append, says_only, says_entries, says_
 use Rattle.inequalities.specs.Inequalities.{dead_test, upper_test, below_test, lower_test, mean_test, dead_tests, upper_tests, below_tests, lower_tests, mean_tests}
 use Rattle.verdict.specs.Verdict.{number_tests, shaped_tests, delivery_tests, verdict}
 use Rattle.verdict.specs.Accepted.{RecordDue, UppersRight, LowersRight, MeansRight, DeliveryFile, RightFiles}
+use Rattle.outcome.specs.Outcomes.{Outcome, Accepted, Refused}
+use Rattle.outcome.specs.declared.Refusal.{Refusal}
+use Rattle.std.specs.Prelude.{Option, Some, None, Err}
 
 -- ---- each test
 
@@ -195,12 +195,12 @@ file_of_passed : (b d : List ℕ) → ModelFile b → Passed (delivery_tests b d
 unfolding delivery_tests shaped_tests
 file_of_passed b d m = go (shape_of (states_of b) (symbols_of b) d) refl
   where
-    go : (t : Shaped) → shape_of (states_of b) (symbols_of b) d ≡ t → Passed (shaped_tests b (states_of b) (symbols_of b) t d)
+    go : (t : Option Shape) → shape_of (states_of b) (symbols_of b) d ≡ t → Passed (shaped_tests b (states_of b) (symbols_of b) t d)
         → (h : Shape) × DeliveryFile b d h
-    go (Of h) e passed =
+    go (Some h) e passed =
         let r = blocks_of_passed b (states_of b) (symbols_of b) (is_model_lem b m) h d passed in
         (h, record { shape = e; uppers = r.uppers; lowers = r.lowers; means = r.means })
-    go Unknown e passed = absurd (true≢false passed.0)
+    go None e passed = absurd (true≢false passed.0)
 
 passed_of_file : (b d : List ℕ) (h : Shape) → ModelFile b → DeliveryFile b d h → Passed (delivery_tests b d)
 unfolding delivery_tests shaped_tests
@@ -227,7 +227,7 @@ delivery_accepted b d = (
 pub delivery_refused : (b d : List ℕ) (r : Reason) (i : ℕ) (k : ℤ) → verdict b d ≡ Refused r i k
     → (t : Test) × (FirstFailure (model_tests b ++ delivery_tests b d) t × (refusal t ≡ Refused r i k))
 unfolding verdict
-delivery_refused b d = first_failure (model_tests b ++ delivery_tests b d)
+delivery_refused b d r i k = first_failure (model_tests b ++ delivery_tests b d) _
 
 pub delivery_refuses : (b d : List ℕ) (t : Test) → FirstFailure (model_tests b ++ delivery_tests b d) t → verdict b d ≡ refusal t
 unfolding verdict
@@ -239,7 +239,7 @@ unfolding verdict model_verdict
 model_first b d = first_stands (model_tests b) (delivery_tests b d)
 
 -- An accepted delivery has the shape of its file, and no other.
-pub shaped_as : (b d : List ℕ) (x : RightFiles b d) (h : Shape) → shape_of (states_of b) (symbols_of b) d ≡ Of h → x.shaped ≡ h
+pub shaped_as : (b d : List ℕ) (x : RightFiles b d) (h : Shape) → shape_of (states_of b) (symbols_of b) d ≡ Some h → x.shaped ≡ h
 shaped_as b d x h e = let q = x.delivery.shape in cc
 
 pub same_shape_lem : (b d : List ℕ) (x y : RightFiles b d) → x.shaped ≡ y.shaped
@@ -328,10 +328,10 @@ short_below : (l u i : ℕ) → Short (below_test l u i ∷ [])
 unfolding below_test
 short_below l u i = short_plain short_none
 
-short_shaped : (b : List ℕ) (s g : ℕ) (t : Shaped) (d : List ℕ) → Short (shaped_tests b s g t d)
+short_shaped : (b : List ℕ) (s g : ℕ) (t : Option Shape) (d : List ℕ) → Short (shaped_tests b s g t d)
 unfolding shaped_tests layout_tests number_tests upper_records lower_records mean_records dead_tests upper_tests below_tests lower_tests mean_tests
-short_shaped b s g Unknown d = short_plain short_none
-short_shaped b s g (Of h) d =
+short_shaped b s g None d = short_plain short_none
+short_shaped b s g (Some h) d =
     short_append
     (short_append (short_entries s g (λ p z q. short_record d _ Uppers p z q))
     (short_append (short_only (has_lowers h) (short_entries s g (λ p z q. short_record d _ Lowers p z q)))
@@ -350,10 +350,13 @@ short_model b =
     (short_append (short_each (records_of b) (λ i. short_plain (short_plain (short_plain (short_plain short_none)))))
     (short_each (rows_in (states_of b) (symbols_of b)) (λ k. short_plain short_none)))
 
+shortfall_same : {a c : Refusal} → ◌≡◌ {A = Outcome} (Err a) (Err c) → a.shortfall ≡ c.shortfall
+shortfall_same {a} {c} e = let is : a ≡ c = cc in ap (λ (why : Refusal). why.shortfall) is
+
 -- The shortfall of a refusal is never above zero.
 pub shortfall_not_positive : (b d : List ℕ) (r : Reason) (i : ℕ) (k : ℤ) → verdict b d ≡ Refused r i k → (n : ℕ) → k ≡ pos (suc n) → ⊥
 unfolding delivery_tests
 shortfall_not_positive b d r i k e n q =
     let (t, (found, same)) = delivery_refused b d r i k e in
     let short = short_append (short_model b) (short_shaped b (states_of b) (symbols_of b) (shape_of (states_of b) (symbols_of b) d) d) in
-    short.each_short t (rw found.split (in_append_right t found.before (t ∷ found.after) (inl refl))) found.fails n (cc)
+    short.each_short t (rw found.split (in_append_right t found.before (t ∷ found.after) (inl refl))) found.fails n (shortfall_same same ∙ q)

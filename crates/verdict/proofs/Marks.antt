@@ -4,7 +4,6 @@ use mathlib.Core.Bool.{true}
 use mathlib.Core.List.{List}
 use mathlib.Core.Logic.{◌↔◌}
 use mathlib.Core.Path.{◌≡◌}
-use Rattle.outcome.specs.declared.Outcome.TheVariants.{Accepted}
 use Rattle.ppda.specs.Live.{is_live, Live}
 use Rattle.ppda.proofs.Live.{live_by_rounds}
 use Rattle.model.specs.Records.{states_of, symbols_of}
@@ -13,6 +12,7 @@ use Rattle.wellformed.specs.Verdict.{model_verdict}
 use Rattle.model.proofs.Accepted.{is_model_lem}
 use Rattle.wellformed.proofs.Accepted.{model_accepted}
 use Rattle.verdict.specs.Marks.{live_mark}
+use Rattle.outcome.specs.Outcomes.{Accepted}
 
 -- The marks shown of an accepted model are those of document 01: live where some run empties the stack.
 pub live_marks_by_runs : (b : List ℕ) → model_verdict b ≡ Accepted → (p z q : ℕ) → p < states_of b → z < symbols_of b → q < states_of b

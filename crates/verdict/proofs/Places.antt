@@ -10,7 +10,6 @@ use lib.IntN.{ℤ}
 use lib.ListN.{length}
 use Rattle.delivery.specs.Format.{record_bytes, most_records}
 use Rattle.outcome.specs.declared.Reason.{Reason}
-use Rattle.outcome.specs.declared.Outcome.TheVariants.{Refused}
 use Rattle.outcome.specs.Reasons.{number_of}
 use Rattle.outcome.specs.Tests.{Test, first}
 use Rattle.outcome.proofs.Tests.{Refusals, refusals_none, refusals_cons, refusals_append, refusals_each, refusals_weaken}
@@ -25,14 +24,14 @@ use Rattle.delivery.specs.declared.shape.Block.{Block}
 use Rattle.delivery.specs.declared.shape.Block.TheVariants.{Uppers, Lowers, Means}
 use Rattle.delivery.specs.declared.shape.Shape.{Shape}
 use Rattle.delivery.specs.declared.shape.Shape.TheVariants.{U, UL, UR, ULR}
-use Rattle.delivery.specs.declared.shape.Shaped.{Shaped}
-use Rattle.delivery.specs.declared.shape.Shaped.TheVariants.{Of, Unknown}
 use Rattle.delivery.specs.Shapes.{has_lowers, has_means, means_from, records_in, shape_of}
 use Rattle.walks.specs.Order.{entries_in, entry_at, row_at, each_entry, each_row}
 use Rattle.layout.specs.Layout.{only_if, record_tests, upper_records, lower_records, mean_records, layout_tests}
 use Rattle.delivery.proofs.Shapes.{shape_long, uppers_fit, lowers_fit, means_fit}
 use Rattle.inequalities.specs.Inequalities.{dead_test, upper_test, below_test, lower_test, mean_test, dead_tests, upper_tests, below_tests, lower_tests, mean_tests}
 use Rattle.verdict.specs.Verdict.{number_tests, shaped_tests, delivery_tests, verdict}
+use Rattle.outcome.specs.Outcomes.{Refused}
+use Rattle.std.specs.Prelude.{Option, Some, None}
 
 -- ---- the tests of a delivery that has a shape
 
@@ -56,7 +55,7 @@ at_record : (d : List ℕ) {i : ℕ} (k : Block) (p z q : ℕ) → i < length d 
 unfolding record_tests
 at_record d k p z q l = refusals_cons (record { number = omega arith; most = omega arith; whole = l }) (λ e. one (omega arith) (omega arith) l)
 
-module _ (s g : ℕ) (d : List ℕ) (h : Shape) (of : shape_of s g d ≡ Of h) where
+module _ (s g : ℕ) (d : List ℕ) (h : Shape) (of : shape_of s g d ≡ Some h) where
   -- Tests at every record of a block.
   at_uppers : {ts : ℕ → ℕ → ℕ → List Test} → ((p z q : ℕ) → entry_at s g p z q < length d / record_bytes → Refusals (AtRecord d) (ts p z q))
       → Refusals (AtRecord d) (each_entry s g ts)
@@ -100,17 +99,17 @@ module _ (s g : ℕ) (d : List ℕ) (h : Shape) (of : shape_of s g d ≡ Of h) w
 -- ---- the verdict
 
 -- A delivery's numbers are 20 to 27.
-shaped_numbers : (b d : List ℕ) (s g : ℕ) (t : Shaped) → shape_of s g d ≡ t
+shaped_numbers : (b d : List ℕ) (s g : ℕ) (t : Option Shape) → shape_of s g d ≡ t
     → Refusals (λ r i. (20 ≤ number_of r) × (number_of r ≤ 27)) (shaped_tests b s g t d)
 unfolding shaped_tests
-shaped_numbers b d s g Unknown of = refusals_cons (omega arith, omega arith) (λ e. refusals_none)
-shaped_numbers b d s g (Of h) of =
+shaped_numbers b d s g None of = refusals_cons (omega arith, omega arith) (λ e. refusals_none)
+shaped_numbers b d s g (Some h) of =
     refusals_weaken (λ r i x. (omega (arith, x.number), x.most)) (both (layout_places s g d h of) (number_places s g d h of b))
 
 pub delivery_number : (b d : List ℕ) (r : Reason) (i : ℕ) (k : ℤ) → first (delivery_tests b d) ≡ Refused r i k
     → (20 ≤ number_of r) × (number_of r ≤ 27)
 unfolding delivery_tests
-delivery_number b d r i k e = (shaped_numbers b d (states_of b) (symbols_of b) _ refl).refused r i k e
+delivery_number b d r i k e = (shaped_numbers b d (states_of b) (symbols_of b) _ refl).refused _ e
 
 -- What holds of a refusal's reason and place.
 record Placed (b d : List ℕ) (r : Reason) (i : ℕ) : Type 0 where
@@ -126,13 +125,13 @@ few_records UR fits = omega (arith, fits.few_entries, fits.few_rows)
 few_records ULR fits = omega (arith, fits.few_entries, fits.few_rows)
 
 -- A delivery for a model whose sizes fit.
-shaped_places : (b d : List ℕ) (s g : ℕ) → Fits s g → (t : Shaped) → shape_of s g d ≡ t → Refusals (Placed b d) (shaped_tests b s g t d)
+shaped_places : (b d : List ℕ) (s g : ℕ) → Fits s g → (t : Option Shape) → shape_of s g d ≡ t → Refusals (Placed b d) (shaped_tests b s g t d)
 unfolding shaped_tests
-shaped_places b d s g fits Unknown of =
+shaped_places b d s g fits None of =
     refusals_cons
     (record { small = omega arith; rule = λ from to. absurd (omega arith); bound = λ from to. absurd (omega arith) })
     (λ e. refusals_none)
-shaped_places b d s g fits (Of h) of =
+shaped_places b d s g fits (Some h) of =
     refusals_weaken
     (λ r i x. record {
       small = omega (arith, shape_long s g d h of, few_records h fits);
@@ -152,15 +151,15 @@ verdict_places b d =
 
 pub place_fits : (b d : List ℕ) (r : Reason) (i : ℕ) (k : ℤ) → verdict b d ≡ Refused r i k → i < 65536
 unfolding verdict
-place_fits b d r i k e = ((verdict_places b d).refused r i k e).small
+place_fits b d r i k e = ((verdict_places b d).refused _ e).small
 
 -- A place that is a record, of the model or of the delivery, is a whole one.
 pub rule_record_lem : (b d : List ℕ) (r : Reason) (i : ℕ) (k : ℤ) → verdict b d ≡ Refused r i k → 11 ≤ number_of r → number_of r ≤ 14
     → i < records_of b
 unfolding verdict
-rule_record_lem b d r i k e = ((verdict_places b d).refused r i k e).rule
+rule_record_lem b d r i k e = ((verdict_places b d).refused _ e).rule
 
 pub bound_record : (b d : List ℕ) (r : Reason) (i : ℕ) (k : ℤ) → verdict b d ≡ Refused r i k → 21 ≤ number_of r → number_of r ≤ 27
     → i < length d / record_bytes
 unfolding verdict
-bound_record b d r i k e = ((verdict_places b d).refused r i k e).bound
+bound_record b d r i k e = ((verdict_places b d).refused _ e).bound

@@ -1,5 +1,5 @@
 -- An accepted delivery in plain words: no reason of document 01's list 20 to 27 applies.
-use Rattle.std.specs.Prelude.{ℕ, ◌+◌, ◌*◌, ◌≤◌, ◌<◌, true, List, ◌≡◌}
+use Rattle.std.specs.Prelude.{ℕ, ◌+◌, ◌*◌, ◌≤◌, ◌<◌, true, List, ◌≡◌, Some}
 use Rattle.ppda.specs.Units.{chance_unit, sum_unit}
 use Rattle.ppda.specs.Equations.{f}
 use Rattle.ppda.specs.Live.{Live}
@@ -10,7 +10,6 @@ use Rattle.model.specs.Accepted.{ModelFile}
 use Rattle.delivery.specs.declared.shape.Block.{Block}
 use Rattle.delivery.specs.declared.shape.Block.TheVariants.{Uppers, Lowers, Means}
 use Rattle.delivery.specs.declared.shape.Shape.{Shape}
-use Rattle.delivery.specs.declared.shape.Shaped.TheVariants.{Of}
 use Rattle.delivery.specs.Records.{kind_at, state_at, symbol_at, exit_at, value_at, kind_of, least_of, most_of}
 use Rattle.delivery.specs.Shapes.{has_lowers, has_means, means_from, shape_of}
 use Rattle.walks.specs.Order.{entries_in, row_at, entry_at, AtRows, AtEntries}
@@ -47,7 +46,7 @@ pub record MeansRight (b : List ℕ) (s g : ℕ) (h : Shape) (d : List ℕ) : Ty
 
 -- A delivery file of shape h for the model b.
 pub record DeliveryFile (b d : List ℕ) (h : Shape) : Type 0 where
-  pub shape : shape_of (states_of b) (symbols_of b) d ≡ Of h
+  pub shape : shape_of (states_of b) (symbols_of b) d ≡ Some h
   pub uppers : UppersRight b (states_of b) (symbols_of b) d
   pub lowers : has_lowers h ≡ true → LowersRight b (states_of b) (symbols_of b) d
   pub means : has_means h ≡ true → MeansRight b (states_of b) (symbols_of b) h d

@@ -12,10 +12,9 @@ use lib.ListN.{length}
 use borrow.Author.Tests.{ltb-true, ltb-false, eqb-true, eqb-false, not-false, lt-ltb, le-ltb, eq-eqb, ne_eqb}
 use Rattle.walks.proofs.Places.{row_split, row_below}
 use Rattle.outcome.specs.declared.Reason.{Reason}
-use Rattle.outcome.specs.declared.Outcome.TheVariants.{Accepted, Refused}
 use Rattle.outcome.specs.Tests.{Test, refusal, first, Passed, FirstFailure}
 use Rattle.walks.specs.Lists.{each}
-use Rattle.walks.proofs.Exactly.{lt_exactly, le_exactly, eq_exactly, both, or_exactly, not_exactly, same_test}
+use Rattle.walks.proofs.Exactly.{lt_exactly, le_exactly, eq_exactly, both, or_exactly, not_exactly}
 use Rattle.outcome.proofs.Tests.{accepted_exactly, refused_exactly, first_failure, passed_append, passed_each}
 use Rattle.ppda.specs.Units.{weight_unit}
 use Rattle.walks.specs.Order.{rows_in, row_at}
@@ -28,6 +27,7 @@ use Rattle.model.specs.Sizes.{sizes_of}
 use Rattle.model.specs.declared.sizes.Sizes.{Sizes}
 use Rattle.model.proofs.Rows.{row_sum_lem}
 use Rattle.wellformed.specs.Verdict.{whole_records, range_at, unused_at, weight_at, above, ascends, record_tests, row_tests, rows_tests, model_tests, model_verdict}
+use Rattle.outcome.specs.Outcomes.{Accepted, Refused}
 
 -- ---- tests and what they say
 
@@ -45,17 +45,6 @@ range_exactly b i =
     (both (ltb (target b i) most_states) _ (lt_exactly (target b i) most_states)
     (both (leb (pushes b i) most_pushes) _ (le_exactly (pushes b i) most_pushes)
     (both (ltb (top b i) most_symbols) (ltb (under b i) most_symbols) (lt_exactly (top b i) most_symbols) (lt_exactly (under b i) most_symbols)))))
-
--- A test of the states, the symbols and the count, each kind together, tells the range.
-pub range_told : (b : List ℕ) (i : ℕ) (t : Bool) → (t ≡ true)
-    ↔ (((state b i < most_states) × (target b i < most_states))
-    × (((symbol b i < most_symbols) × ((top b i < most_symbols) × (under b i < most_symbols))) × (pushes b i ≤ most_pushes)))
-    → t ≡ range_at b i
-range_told b i t told =
-    same_test t (range_at b i) (
-      λ e. let ((p, q), ((z, (y, x)), l)) = told.0 e in (range_exactly b i).1 (p, (z, (q, (l, (y, x))))),
-      λ e. let (p, (z, (q, (l, (y, x))))) = (range_exactly b i).0 e in told.1 ((p, q), ((z, (y, x)), l)),
-    )
 
 unused_tests : (l y x : ℕ) → (((ltb 0 l || eqb y 0) && (eqb l 2 || eqb x 0)) ≡ true) ↔ ((l ≡ 0 → y ≡ 0) × ((l ≡ 2 → ⊥) → x ≡ 0))
 unused_tests l y x = both (ltb 0 l || eqb y 0) (eqb l 2 || eqb x 0) top under
@@ -203,7 +192,7 @@ model_accepted b = Iff.trans (accepted_exactly (model_tests b)) (file_of_passed 
 pub model_refused : (b : List ℕ) (r : Reason) (i : ℕ) (k : ℤ) → model_verdict b ≡ Refused r i k
     → (t : Test) × (FirstFailure (model_tests b) t × (refusal t ≡ Refused r i k))
 unfolding model_verdict
-model_refused b = first_failure (model_tests b)
+model_refused b r i k = first_failure (model_tests b) _
 
 pub model_refuses : (b : List ℕ) (t : Test) → FirstFailure (model_tests b) t → model_verdict b ≡ refusal t
 unfolding model_verdict

@@ -1,18 +1,15 @@
 -- The order of records by their numbers: a record lies above the one before it exactly where its number is greater, and the first has none before it.
 use Prim.Native.Nat.{ℕ, zero, suc, ◌+◌, ◌<◌}
-use native.Mathlib.Nat.{pos_of_ne-zero}
 use native.Mathlib.Numerals.{add-one}
 use native.Mathlib.Omega.{arith}
-use mathlib.Core.Bool.{Bool, true, false}
+use mathlib.Core.Bool.{Bool, true}
 use mathlib.Core.List.{List}
 use mathlib.Core.Logic.{◌↔◌}
 use mathlib.Core.Path.{◌≡◌, sym}
-use lib.Dec.{eqb}
-use borrow.Author.Tests.{eqb-false, ne_eqb, not-false}
+use borrow.Author.Tests.{not-false}
 use Rattle.walks.proofs.Exactly.{same_test}
-use Rattle.outcome.specs.declared.Outcome.TheVariants.{Accepted}
 use Rattle.outcome.specs.Tests.{first}
-use Rattle.outcome.proofs.Tests.{accepted_exactly, by_cases}
+use Rattle.outcome.proofs.Tests.{accepted_exactly}
 use Rattle.model.specs.Records.{key}
 use Rattle.model.specs.Numbers.{Digits, key_bases, key_number}
 use Rattle.model.specs.Accepted.{Above}
@@ -20,6 +17,7 @@ use Rattle.model.proofs.Numbers.{numerals_exactly}
 use Rattle.wellformed.specs.Verdict.{above, ascends}
 use Rattle.wellformed.specs.Clauses.{own_tests, Numbered, NumberedBefore, TellsOrder}
 use Rattle.wellformed.proofs.Accepted.{range_exactly, above_exactly}
+use Rattle.outcome.specs.Outcomes.{Accepted}
 
 -- The fields of a record that has passed its own tests are in range, and so each is below its base.
 own_digits : (b : List ℕ) (i : ℕ) → first (own_tests b i) ≡ Accepted → Digits key_bases (key b i)
@@ -46,17 +44,6 @@ order_told (suc i) before number t told b hb h =
       λ e. listed.1 (two.0 (told.0 e (omega arith))),
       λ e. told.1 (λ l. two.1 (listed.0 e)),
     )
-
--- By whether the record is the first.
-pub order_by_cases : (i before number : ℕ) (t : Bool) → (eqb i 0 ≡ true → t ≡ true) → (eqb i 0 ≡ false → (t ≡ true) ↔ (before < number))
-    → TellsOrder i before number t
-order_by_cases i before number t at_first at_others = order_told i before number t (to, from)
-  where
-    to : t ≡ true → (0 < i) → before < number
-    to e l = (at_others (ne_eqb i 0 (λ z. omega arith))).0 e
-
-    from : ((0 < i) → before < number) → t ≡ true
-    from h = by_cases (eqb i 0) (λ e. (at_others e).1 (h (pos_of_ne-zero (eqb-false i 0 e)))) at_first
 
 -- Before the first record there is none, and after a record comes the next.
 pub before_none : {b : List ℕ} {n : ℕ} → NumberedBefore b 0 n

@@ -10,7 +10,6 @@ use lib.IntN.{ℤ}
 use lib.ListN.{length}
 use borrow.Author.Tests.{leb-true, not-false}
 use Rattle.outcome.specs.declared.Reason.{Reason}
-use Rattle.outcome.specs.declared.Outcome.TheVariants.{Refused}
 use Rattle.outcome.specs.Reasons.{number_of}
 use Rattle.outcome.proofs.Tests.{Refusals, refusals_none, refusals_cons, refusals_append, refusals_each}
 use Rattle.walks.specs.Order.{rows_in}
@@ -19,6 +18,7 @@ use Rattle.model.specs.Records.{records_of, states_of, symbols_of}
 use Rattle.wellformed.specs.Verdict.{whole_records, record_tests, row_tests, rows_tests, model_tests, model_verdict}
 use Rattle.wellformed.proofs.Accepted.{records_right}
 use Rattle.model.proofs.Records.{sizes_fit}
+use Rattle.outcome.specs.Outcomes.{Refused}
 
 -- A length that passes is that of at most 1,024 records.
 few_records : (b : List ℕ) → whole_records (length b) ≡ true → records_of b ≤ most_records
@@ -60,15 +60,15 @@ model_places b =
 
 pub model_place : (b : List ℕ) (r : Reason) (i : ℕ) (k : ℤ) → model_verdict b ≡ Refused r i k → i < 65536
 unfolding model_verdict
-model_place b r i k e = ((model_places b).refused r i k e).small
+model_place b r i k e = ((model_places b).refused _ e).small
 
 -- The number is one of 10 to 15.
 pub model_number : (b : List ℕ) (r : Reason) (i : ℕ) (k : ℤ) → model_verdict b ≡ Refused r i k → (10 ≤ number_of r) × (number_of r ≤ 15)
 unfolding model_verdict
-model_number b r i k e = let x = (model_places b).refused r i k e in (x.least, x.number)
+model_number b r i k e = let x = (model_places b).refused _ e in (x.least, x.number)
 
 -- A place that is a record is a whole one.
 pub model_record_lem : (b : List ℕ) (r : Reason) (i : ℕ) (k : ℤ) → model_verdict b ≡ Refused r i k → 11 ≤ number_of r → number_of r ≤ 14
     → i < records_of b
 unfolding model_verdict
-model_record_lem b r i k e = ((model_places b).refused r i k e).whole
+model_record_lem b r i k e = ((model_places b).refused _ e).whole

@@ -1,13 +1,9 @@
 -- The tests of records as the code goes through them: those of a record by itself, that of its order by numbers, and the sizes found on the way.
 use Rattle.std.specs.Prelude.{ℕ, ◌+◌, Bool, not, List, [], ◌∷◌, ◌≡◌}
-use Rattle.outcome.specs.declared.Outcome.{Outcome}
-use Rattle.outcome.specs.declared.Outcome.TheVariants.{Accepted}
 use Rattle.outcome.specs.declared.Reason.TheVariants.{OutOfRange, UnusedNotZero, WeightOutOfRange}
 use Rattle.outcome.specs.Tests.{Test, plain}
-use Rattle.model.specs.declared.sizes.Sizes.{Sizes}
 use Rattle.model.specs.Records.{key}
 use Rattle.model.specs.Numbers.{Digits, key_bases, key_number}
-use Rattle.model.specs.Clauses.{SizesTo}
 use Rattle.wellformed.specs.Verdict.{range_at, unused_at, weight_at, ascends}
 
 -- The tests of record i but that of its order.
@@ -30,7 +26,3 @@ NumberedBefore b i n = (j : ℕ) → i ≡ j + 1 → Numbered b j n
 -- t tells whether record i lies above the one before it, in any file where these are their numbers.
 abbrev pub TellsOrder : ℕ → ℕ → ℕ → Bool → Type 0
 TellsOrder i before number t = (b : List ℕ) → NumberedBefore b i before → Numbered b i number → t ≡ ascends b i
-
--- Where n records are accepted, these are their sizes.
-abbrev pub SizesIfAccepted : List ℕ → ℕ → Outcome → Sizes → Type 0
-SizesIfAccepted b n found sizes = found ≡ Accepted → SizesTo b n sizes

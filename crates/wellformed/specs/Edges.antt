@@ -1,10 +1,9 @@
 -- The order of model records, field by field (document 01, reason 14; request A.4).
 use Rattle.std.specs.Prelude.{ℕ, List, [], ◌∷◌, ◌++◌, pos}
-use Rattle.outcome.specs.declared.Outcome.{Outcome}
-use Rattle.outcome.specs.declared.Outcome.TheVariants.{Refused}
 use Rattle.outcome.specs.declared.Reason.TheVariants.{NotAscending, RowSumWrong}
 use Rattle.model.specs.Made.{model_record}
 use Rattle.wellformed.specs.Verdict.{model_verdict}
+use Rattle.outcome.specs.Outcomes.{Outcome, Refused}
 
 -- Two records, of which the second lies above the first.
 pub record Pair : Type 0 where

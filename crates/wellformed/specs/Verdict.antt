@@ -1,6 +1,5 @@
 -- The verdict on a model file: document 01's list 10 to 15, top to bottom.
 use Rattle.std.specs.Prelude.{ℕ, zero, suc, ◌%◌, Bool, true, false, not, ◌&&◌, ◌||◌, List, [], ◌∷◌, ◌++◌, eqb, leb, ltb, length}
-use Rattle.outcome.specs.declared.Outcome.{Outcome}
 use Rattle.outcome.specs.declared.Reason.TheVariants.{ModelLength, OutOfRange, UnusedNotZero, WeightOutOfRange, NotAscending, RowSumWrong}
 use Rattle.outcome.specs.Tests.{Test, plain, first}
 use Rattle.walks.specs.Lists.{each}
@@ -9,6 +8,7 @@ use Rattle.walks.specs.Order.{rows_in}
 use Rattle.model.specs.Format.{record_bytes, most_bytes, most_states, most_symbols, most_pushes}
 use Rattle.model.specs.Records.{records_of, states_of, symbols_of, state, symbol, target, pushes, top, under, weight, key}
 use Rattle.model.specs.Rules.{row_sum}
+use Rattle.outcome.specs.Outcomes.{Outcome}
 
 -- A file of n bytes has whole records, at least one and at most 1,024.
 unfoldable pub whole_records : ℕ → Bool

@@ -29,15 +29,13 @@ fn sum_of_row(model: &[u8], n: Sizes, k: usize, i: usize) -> SummedRow
 {
     let end = records(model);
     let mut sum = 0;
-    let mut at = i;
-    while at < end {
+    for at in i..end {
         if n.row(state(model, at), symbol(model, at)) != k {
             return SummedRow { sum, next: at };
         }
         sum += weight(model, at);
-        at += 1;
     }
-    SummedRow { sum, next: at }
+    SummedRow { sum, next: end }
 }
 
 // The tests of the rows, in their order.
@@ -47,14 +45,12 @@ pub(crate) fn check(model: &[u8], n: Sizes) -> Outcome
 {
     let rows = n.rows();
     let mut next = 0;
-    let mut k = 0;
-    while k < rows {
+    for k in 0..rows {
         let row = sum_of_row(model, n, k, next);
         if row.sum != WEIGHT_UNIT {
             return refused(Reason::RowSumWrong, k);
         }
         next = row.next;
-        k += 1;
     }
-    Outcome::Accepted
+    Ok(())
 }

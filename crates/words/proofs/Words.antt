@@ -1,12 +1,13 @@
--- A number below 2^32 is told by its four bytes, and four bytes by their number: `omega` shows both from quotients and remainders by 256.
+-- A number below 2^32 is told by its four bytes, and four bytes by their number: the library's laws of bytes say both.
 use Prim.Native.Nat.{ℕ, zero, suc, ◌+◌, ◌*◌, ◌/◌, ◌%◌, ◌≤◌, ◌<◌, ◌^◌}
-use native.Mathlib.Nat.{add-zero, add-suc, mod-add-div, mod-eq_of_lt, div-div-eq-div-mul}
+use native.Mathlib.Nat.{add-zero, add-suc}
 use native.Mathlib.Omega.{arith}
 use mathlib.Core.List.{List, [], ◌∷◌, ◌++◌, append_assoc}
 use mathlib.Core.Path.{◌≡◌, refl, sym, ap, ap₂, ◌∙◌}
 use lib.ListN.{length, get_or, take, drop, set, length-append, length-drop}
 use lib.Seq.{length-take-le, drop-cons, get_or-append-add, get_or-set_other, drop-append-add, take-add, take_at, drop-drop, sets, sets-eq}
 use mathlib.Core.Logic.{◌⊎◌, inl, inr}
+use Rattle.std.proofs.lemmas.Nat.{le_bytes_4, from_le_bytes-to_le_bytes_4}
 use Rattle.words.specs.Words.{word_at, four_bytes, Bytes}
 use Rattle.words.specs.Clauses.{written}
 
@@ -50,33 +51,13 @@ word_by b at p q r s = rw (p, q, r, s)
 
 -- The four bytes of a number below 2^32 make the number.
 pub bytes_make : (n : ℕ) → n < 2 ^ 32 → n % 256 + n / 256 % 256 * 256 + n / 65536 % 256 * 65536 + n / 16777216 % 256 * 16777216 ≡ n
-bytes_make n h =
-    let last : n / 16777216 % 256 ≡ n / 16777216 = mod-eq_of_lt (omega arith) in
-    omega (
-      arith,
-      mod-add-div n 256,
-      mod-add-div (n / 256) 256,
-      mod-add-div (n / 65536) 256,
-      div-div-eq-div-mul n 256 256,
-      div-div-eq-div-mul n 65536 256,
-    )
-
--- The low byte of a number.
-low : (n a k : ℕ) → a < 256 → n ≡ a + 256 * k → n % 256 ≡ a
-low n a k h e = omega arith
+bytes_make n h = from_le_bytes-to_le_bytes_4 n h
 
 -- Four bytes are those of the number that they make.
 pub make_bytes : (n a b c d : ℕ) → a < 256 → b < 256 → c < 256 → d < 256 → n ≡ a + b * 256 + c * 65536 + d * 16777216
     → four_bytes n ≡ a ∷ b ∷ c ∷ d ∷ []
 make_bytes n a b c d ha hb hc hd e =
-    let e₁ : n / 256 ≡ b + c * 256 + d * 65536 = omega arith in
-    let e₂ : n / 65536 ≡ c + d * 256 = omega arith in
-    let e₃ : n / 16777216 ≡ d = omega arith in
-    let f₀ : n % 256 ≡ a = omega arith in
-    let f₁ : n / 256 % 256 ≡ b = low (n / 256) b (c + 256 * d) hb (omega arith) in
-    let f₂ : n / 65536 % 256 ≡ c = low (n / 65536) c d hc (omega arith) in
-    let f₃ : n / 16777216 % 256 ≡ d = low (n / 16777216) d 0 hd (omega arith) in
-    rw (f₀, f₁, f₂, f₃)
+    le_bytes_4 (a ∷ b ∷ c ∷ d ∷ []) n refl (bytes_cons ha (bytes_cons hb (bytes_cons hc (bytes_cons hd bytes_none)))).byte e
 
 -- A word reads what stands at its place.
 pub word_past : (x y : List ℕ) (at : ℕ) → word_at (x ++ y) (length x + at) ≡ word_at y at

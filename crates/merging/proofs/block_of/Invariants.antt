@@ -1,9 +1,6 @@
-use Prim.Native.Nat.{◌-◌, ◌*◌, ◌≤◌}
+use Prim.Native.Nat.{◌*◌}
 use Rattle.merging.specs.Clauses.{Holds}
 use Rattle.merging.proofs.block_of.Given as goal
 
 abbrev pub invariant-loop-row : goal.invariant-loop-row
-invariant-loop-row l = (l.row ≤ l.rows) × Holds l.n.states l.n.symbols l.list (l.row * l.n.states) l.block
-
-abbrev pub decreases-loop-row : goal.decreases-loop-row
-decreases-loop-row l = l.rows - l.row
+invariant-loop-row l = Holds l.n.states l.n.symbols l.list (l.row * l.n.states) l.block

@@ -8,17 +8,14 @@ use Rattle.merging.proofs.Lists.{holds_step, holds_end, listed_in}
 use Rattle.merging.proofs.put_row.Goals as goal
 
 pub loop-q-preserved : goal.loop-q-preserved
-loop-q-preserved c = let loop = c in
-    let start = loop in
-    let n = start.args.n in
+loop-q-preserved c =
+    let n = c.args.n in
+    let list = c.args.list.now in
     let entry = c.entry_in-e in
     let exit = c.exit_in-at in
-    let list = start.args.list.now in (
-      omega arith,
-      rw c.put_word.ensures
-          (holds_end
-          (holds_step loop.loop-q.invariant.1 (omega (arith, entry.ensures.0, entry.ensures.1, start.requires.listed.1.few_entries)) (start.requires.listed.0 exit.result)
-          (ap (λ e. record_bytes * e + value_byte) entry.ensures.0)
-          (ap (λ i. get_or list i 0) exit.ensures.0 ∙ listed_in n.states n.symbols list start.args.row loop.loop-q.q start.requires.listed.2 (omega arith)))
-          (omega arith)),
-    )
+    rw c.put_word.ensures
+    (holds_end
+    (holds_step c.loop-q.invariant (omega (arith, entry.ensures.0, entry.ensures.1, c.requires.listed.1.few_entries)) (c.requires.listed.0 exit.result)
+    (ap (λ e. record_bytes * e + value_byte) entry.ensures.0)
+    (ap (λ i. get_or list i 0) exit.ensures.0 ∙ listed_in n.states n.symbols list c.args.row c.loop-q.q c.requires.listed.2 (omega arith)))
+    (omega arith))

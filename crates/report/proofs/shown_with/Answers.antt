@@ -1,6 +1,5 @@
 -- `shown_with`: the line of the sizes, of the margin, the lines of the live entries and of the rows, one after the other.
 use native.Mathlib.Omega.{arith}
-use borrow.Author.Rules.{rules}
 use Rattle.report.proofs.Asked.{put_holds, lines_put}
 use Rattle.report.proofs.shown_with.Goals as goal
 

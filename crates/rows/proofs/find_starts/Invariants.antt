@@ -1,4 +1,4 @@
-use Prim.Native.Nat.{ℕ, ◌+◌, ◌≤◌, ◌<◌, ◌-◌}
+use Prim.Native.Nat.{ℕ, ◌+◌, ◌≤◌, ◌<◌}
 use mathlib.Core.Path.{◌≡◌}
 use lib.ListN.{length, get_or}
 use Rattle.model.specs.Records.{records_of}
@@ -8,8 +8,5 @@ use Rattle.model.specs.Clauses.{StartsAt}
 use Rattle.rows.proofs.find_starts.Given as goal
 
 abbrev pub invariant-loop-k : goal.invariant-loop-k
-invariant-loop-k l = (l.k ≤ l.rows + 1) × (l.rows ≤ most_rows) × (length l.starts ≡ most_rows + 1) × (l.at ≤ records_of l.model)
+invariant-loop-k l = (l.rows ≤ most_rows) × (length l.starts ≡ most_rows + 1) × (l.at ≤ records_of l.model)
     × ((j : ℕ) → j < l.at → row_of l.model l.n.symbols j < l.k) × ((e : ℕ) → e < l.k → StartsAt l.model l.n.symbols e (get_or l.starts e 0))
-
-abbrev pub decreases-loop-k : goal.decreases-loop-k
-decreases-loop-k l = l.rows + 1 - l.k

@@ -18,11 +18,11 @@ unfolding row_of
 returns-then-k-row c =
     let row_read : c.row.result ≡ row_of c.args.model.now c.args.n.symbols c.loop-at.at = rw (c.row.ensures.0, c.symbol.ensures.0, c.state.ensures.0) in
     let inv = c.loop-at.invariant in
-    starts_here c.requires.sized (omega arith) inv.2 (omega (arith, row_read))
+    starts_here c.requires.sized (omega arith) inv.1 (omega (arith, row_read))
 
 pub loop-at-preserved : goal.loop-at-preserved
 unfolding row_of
 loop-at-preserved c =
     let row_read : c.row.result ≡ row_of c.args.model.now c.args.n.symbols c.loop-at.at = rw (c.row.ensures.0, c.symbol.ensures.0, c.state.ensures.0) in
     let inv = c.loop-at.invariant in
-    (inv.0, omega arith, below_more _ _ inv.2 (omega (arith, row_read)))
+    (inv.0, below_more _ _ inv.1 (omega (arith, row_read)))

@@ -1,16 +1,10 @@
--- `steps`: the call is said where the rest has two numbers, which are its own in their order.
-use Rattle.said.proofs.Rest.{row_found}
+-- `steps`: the question is asked where the rest has its numbers, which are the question's in their order.
 use Rattle.calls.specs.declared.Question.TheVariants.{MeanSteps}
+use Rattle.said.proofs.Rest.{row_found}
 use Rattle.said.proofs.steps.Goals as goal
 
-pub returns-in-Two : goal.returns-in-Two
-returns-in-Two c = row_found MeanSteps _ _ c.numbers_in.ensures c.in-Two.is
+pub returns-in-Some : goal.returns-in-Some
+returns-in-Some c = row_found _ MeanSteps c.in-Some.ensures
 
-pub returns-in-Three : goal.returns-in-Three
-returns-in-Three c = row_found MeanSteps _ _ c.numbers_in.ensures c.in-Three.is
-
-pub returns-in-Four : goal.returns-in-Four
-returns-in-Four c = row_found MeanSteps _ _ c.numbers_in.ensures c.in-Four.is
-
-pub returns-in-Other : goal.returns-in-Other
-returns-in-Other c = row_found MeanSteps _ _ c.numbers_in.ensures c.in-Other.is
+pub returns-in-None : goal.returns-in-None
+returns-in-None c = row_found _ MeanSteps c.in-None.ensures

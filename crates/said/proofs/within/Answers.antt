@@ -1,16 +1,10 @@
--- `within`: the call is said where the rest has four numbers, which are its own in their order.
-use Rattle.said.proofs.Rest.{steps_found}
+-- `within`: the question is asked where the rest has its numbers, which are the question's in their order.
 use Rattle.calls.specs.declared.Question.TheVariants.{Within}
+use Rattle.said.proofs.Rest.{steps_found}
 use Rattle.said.proofs.within.Goals as goal
 
-pub returns-in-Four : goal.returns-in-Four
-returns-in-Four c = steps_found Within _ _ c.numbers_in.ensures c.in-Four.is
+pub returns-in-Some : goal.returns-in-Some
+returns-in-Some c = steps_found _ Within c.in-Some.ensures
 
-pub returns-in-Two : goal.returns-in-Two
-returns-in-Two c = steps_found Within _ _ c.numbers_in.ensures c.in-Two.is
-
-pub returns-in-Three : goal.returns-in-Three
-returns-in-Three c = steps_found Within _ _ c.numbers_in.ensures c.in-Three.is
-
-pub returns-in-Other : goal.returns-in-Other
-returns-in-Other c = steps_found Within _ _ c.numbers_in.ensures c.in-Other.is
+pub returns-in-None : goal.returns-in-None
+returns-in-None c = steps_found _ Within c.in-None.ensures

@@ -1,5 +1,4 @@
 -- `serve`: each byte takes the desk a step on, and there is room for a reply to each.
-use Prim.Native.Nat.{◌-◌}
 use native.Mathlib.Omega.{arith}
 use mathlib.Core.Path.{◌≡◌, refl, sym, ap, ◌∙◌}
 use lib.ListN.{length}
@@ -14,7 +13,7 @@ loop-i-init g c =
     c.well_formed.1.0.1.1.1.0.1.0.1 in
     let start = c in
     let none = ap (λ (n : Sizes). n.states) c.none-sizes.ensures in
-    (serving_none c.least-taken.ensures (line_size) (omega (arith, c.least-kept.ensures)) c.view-v.ensures c.lists-lists.ensures, record { size = refl; found = λ some. absurd (omega arith) })
+    (serving_none c.min-taken.ensures (line_size) (omega (arith, c.min-kept.ensures)) c.view-v.ensures c.lists-lists.ensures, record { size = refl; found = λ some. absurd (omega arith) })
 
 pub loop-i-preserved-then-byte-ne10 : goal.loop-i-preserved-then-byte-ne10
 loop-i-preserved-then-byte-ne10 g c = let turn = c in

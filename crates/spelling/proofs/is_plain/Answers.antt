@@ -1,25 +1,18 @@
--- `is_plain`: every byte passed is printable, so that the line is plain where all are from byte i on.
-use native.Mathlib.Omega.{arith}
-use mathlib.Core.Path.{sym, ◌∙◌}
-use Rattle.spelling.specs.Spelling.{is_printable}
-use Rattle.spelling.proofs.Words.{every_fails, every_passes, every_done, plain_long, plain_short}
+-- `is_plain`: a line that is short enough is plain where every byte is no control byte.
+use Rattle.std.proofs.Common.{not, rules, tests, sym, ◌∙◌}
+use borrow.Author.Tests.{lt-leb}
+use Rattle.std.specs.Char.{is_ascii_control}
+use Rattle.std.proofs.lemmas.Iterator.{YieldsList-from_slice}
+use Rattle.std.proofs.lemmas.Iterator.Search.{all_from_yields_List}
+use Rattle.spelling.proofs.Words.{plain_long, plain_short}
 use Rattle.spelling.proofs.is_plain.Goals as goal
 
-pub returns-then-line-gt-MOST_BYTES : goal.returns-then-line-gt-MOST_BYTES
-returns-then-line-gt-MOST_BYTES c = sym (plain_long _ (omega arith))
+pub returns-then-line-le-MOST_BYTES : goal.returns-then-line-le-MOST_BYTES
+returns-then-line-le-MOST_BYTES c =
+    all_from_yields_List (λ b. not (is_ascii_control b)) _ _ c.all.result c.all.ensures.ran (YieldsList-from_slice c.args.line.now cc) (λ x b q k. search (rules, tests))
+    ∙ plain_short _ c.if-line-le-MOST_BYTES.true
 
-pub returns-then-not-is_printable : goal.returns-then-not-is_printable
-returns-then-not-is_printable c = sym
-    (plain_short _ (omega arith)
-    ∙ c.loop-i.invariant.1
-    ∙ every_fails is_printable _ _ c.loop-i-test.true (sym c.is_printable.ensures ∙ c.if-not-is_printable.true))
-
-pub loop-i-preserved : goal.loop-i-preserved
-loop-i-preserved c = (
-  omega arith,
-  c.loop-i.invariant.1
-      ∙ every_passes is_printable _ _ c.loop-i-test.true (sym c.is_printable.ensures ∙ c.if-not-is_printable.false),
-)
-
-pub returns : goal.returns
-returns c = sym (plain_short _ (omega arith) ∙ c.loop-i.invariant.1 ∙ every_done is_printable _ _ c.loop-i-test.false)
+pub returns-else-line-le-MOST_BYTES : goal.returns-else-line-le-MOST_BYTES
+returns-else-line-le-MOST_BYTES c =
+    let long = c.if-line-le-MOST_BYTES.false in
+    lt-leb _ 300 long ∙ sym (plain_long _ long)

@@ -1,38 +1,28 @@
 -- `number_of`: the bytes passed are digits that say n, so that the word says what the rest of it says after n.
-use native.Mathlib.Omega.{arith}
-use mathlib.Core.Path.{refl, sym, ◌∙◌}
-use Rattle.text.specs.Reading.{number_in}
-use Rattle.spelling.specs.Spelling.{is_digit}
-use Rattle.spelling.proofs.Words.{every_fails, every_passes, every_done, number_step, number_done, number_more}
-use Rattle.spelling.proofs.Words.{number_short, number_long, number_not, number_is}
+use Rattle.std.proofs.Common.{sym, ◌∙◌, arith, rules, tests}
+use Rattle.spelling.proofs.Words.{number_short, number_sized, digit_fails, digit_passes, digits_done, number_more}
 use Rattle.spelling.proofs.number_of.Goals as goal
 
-pub returns-then-word-eq0 : goal.returns-then-word-eq0
-returns-then-word-eq0 c = sym (number_short _ (omega arith))
+pub returns-then-not-contains : goal.returns-then-not-contains
+returns-then-not-contains c = sym (number_short _ (search (rules, tests)))
 
-pub returns-then-word-gt-MOST_DIGITS : goal.returns-then-word-gt-MOST_DIGITS
-returns-then-word-gt-MOST_DIGITS c = sym (number_long _ (omega arith))
+pub loop-digit-init : goal.loop-digit-init
+loop-digit-init c = (omega arith, number_sized c.args.word.now (search (rules, tests)) (search (rules, tests)))
 
-pub loop-i-init : goal.loop-i-init
-unfolding number_in
-loop-i-init c = (omega arith, omega arith, refl, refl)
+pub returns-then-not-is_ascii_digit : goal.returns-then-not-is_ascii_digit
+returns-then-not-is_ascii_digit c =
+    let i = c.loop-digit.digit-index in
+    let word = c.args.word.now in
+    sym (c.loop-digit.invariant.1 ∙ digit_fails _ word i c.loop-digit-test.true (sym c.is_ascii_digit.ensures.value ∙ c.if-not-is_ascii_digit.true))
 
-pub returns-then-not-is_digit : goal.returns-then-not-is_digit
-returns-then-not-is_digit c = sym
-    (number_not _ (omega arith) (omega arith)
-    (c.loop-i.invariant.2
-    ∙ every_fails is_digit _ _ c.loop-i-test.true (sym c.is_digit.ensures ∙ c.if-not-is_digit.true)))
-
-pub loop-i-preserved : goal.loop-i-preserved
-loop-i-preserved c = let digit = sym c.is_digit.ensures ∙ c.if-not-is_digit.false in (
-  omega arith,
-  rw c.with_digit-n.ensures (number_more _ _ _ c.loop-i.invariant.1 digit),
-  c.loop-i.invariant.2 ∙ every_passes is_digit _ _ c.loop-i-test.true digit,
-  c.loop-i.invariant.3 ∙ number_step _ _ _ c.loop-i-test.true ∙ rw c.with_digit-n.ensures,
-)
+pub loop-digit-preserved : goal.loop-digit-preserved
+loop-digit-preserved c =
+    let i = c.loop-digit.digit-index in
+    let word = c.args.word.now in
+    let digit = sym c.is_ascii_digit.ensures.value ∙ c.if-not-is_ascii_digit.false in (
+      rw c.with_digit-n.ensures (number_more _ _ _ c.loop-digit.invariant.0 digit),
+      c.loop-digit.invariant.1 ∙ digit_passes _ word i c.loop-digit-test.true digit ∙ rw c.with_digit-n.ensures,
+    )
 
 pub returns : goal.returns
-returns c = sym
-    (number_is _ (omega arith) (omega arith)
-    (c.loop-i.invariant.2 ∙ every_done is_digit _ _ c.loop-i-test.false)
-    (c.loop-i.invariant.3 ∙ number_done _ _ _ c.loop-i-test.false))
+returns c = sym (c.loop-digit.invariant.1 ∙ digits_done _ c.args.word.now c.loop-digit.digit-index (omega arith))

@@ -1,13 +1,16 @@
--- `word_end`: no byte passed is a space, so that the word ends as far on as it does from byte i.
-use native.Mathlib.Omega.{arith}
-use Rattle.spelling.proofs.Words.{ends_here, ends_later, ends_there}
+-- `word_end`: the first word ends at the first space, or where the text does.
+use Rattle.std.proofs.Common.{◌≡◌, length, eqb, ap, arith, rules, tests, ◌∙◌}
+use Rattle.std.proofs.lemmas.Iterator.{YieldsList-from_slice}
+use Rattle.std.proofs.lemmas.Iterator.Search.{position_from_yields_List}
+use Rattle.std.specs.List.{position}
+use Rattle.std.specs.Option.{unwrap_or}
+use Rattle.spelling.proofs.Words.{end_is, end_within}
 use Rattle.spelling.proofs.word_end.Goals as goal
 
-pub returns-then-text-i-eq32 : goal.returns-then-text-i-eq32
-returns-then-text-i-eq32 c = (ends_here _ _ c.loop-i.invariant.1 c.loop-i-test.true c.if-text-i-eq32.true, omega arith)
-
-pub loop-i-preserved : goal.loop-i-preserved
-loop-i-preserved c = (omega arith, ends_later _ _ c.loop-i.invariant.1 c.loop-i-test.true c.if-text-i-eq32.false)
-
 pub returns : goal.returns
-returns c = (ends_there _ _ c.loop-i.invariant.1 c.loop-i-test.false, omega arith)
+returns c =
+    let text = c.args.text.now in
+    let found : c.position.result ≡ position (λ b. eqb b 32) text =
+    position_from_yields_List (λ b. eqb b 32) _ _ c.position.result c.position.ensures.ran (YieldsList-from_slice text cc) (λ x b q k. search (rules, tests)) in
+    let end = c.unwrap_or.ensures ∙ ap (λ o. unwrap_or o (length text)) found ∙ end_is text in
+    (end, omega (arith, end, end_within text))

@@ -2,5 +2,5 @@
 use Rattle.text.proofs.Puts.{spaced_one}
 use Rattle.text.proofs.put_fields.Goals as goal
 
-pub loop-i-preserved : goal.loop-i-preserved
-loop-i-preserved c = spaced_one c.loop-i.invariant c.loop-i-test.true c.put_field-at.ensures
+pub loop-n-preserved : goal.loop-n-preserved
+loop-n-preserved c = spaced_one c.loop-n.invariant c.loop-n-test.true c.put_field-at.ensures

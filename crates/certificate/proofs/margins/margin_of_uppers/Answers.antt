@@ -3,5 +3,4 @@ use Rattle.certificate.proofs.Steps.{margin_found}
 use Rattle.certificate.proofs.margins.margin_of_uppers.Goals as goal
 
 pub returns : goal.returns
-returns c = let marks = c in
-    margin_found marks.requires.0 _ marks.find_marks.ensures c.margin_of.ensures
+returns c = margin_found c.requires.0 _ c.find_marks.ensures c.margin_of.ensures

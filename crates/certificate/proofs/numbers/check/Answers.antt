@@ -1,6 +1,7 @@
 -- `check`: dead uppers are tested first, then the rest of the file, from record V on, and the first part that refuses decides.
 use native.Mathlib.Omega.{arith}
-use mathlib.Core.Path.{sym}
+use mathlib.Core.Path.{refl, sym, ◌∙◌}
+use Rattle.std.proofs.lemmas.Result.{err_from_is_err_and}
 use lib.Seq.{length-take-le}
 use Rattle.model.proofs.Accepted.{sized_fits}
 use Rattle.delivery.proofs.Shapes.{uppers_fit}
@@ -20,31 +21,30 @@ slice_bounds-rest-count c = omega (arith, uppers_fit _ _ _ _ c.requires.file.of)
 pub slice_bounds-rest-start : goal.slice_bounds-rest-start
 slice_bounds-rest-start c = omega (arith, uppers_fit _ _ _ _ c.requires.file.of)
 
-pub check_dead-found-requires-clause-sizes : goal.check_dead-found-requires-clause-sizes
-check_dead-found-requires-clause-sizes c = let entries = c in
-    let pre = entries.requires in
-    let uppers = uppers_in_range _ _ _ pre.file.of pre.layout entries.entries-v.ensures.0 in
-    (sized_fits pre.file.sized, uppers.whole)
+pub check_dead-requires-clause-sizes : goal.check_dead-requires-clause-sizes
+check_dead-requires-clause-sizes c =
+    let pre = c.requires in
+    (sized_fits pre.file.sized, (uppers_in_range _ _ _ pre.file.of pre.layout c.entries-v.ensures.0).whole)
 
-pub returns-in-Refused : goal.returns-in-Refused
-returns-in-Refused c = let marks = c in
-    let entries = marks in
-    dead_uppers_decide entries.requires.file.sized _ _ entries.entries-v.ensures.0 marks.find_marks.ensures
-    _ c.check_dead-found.ensures c.in-Refused.is
+pub returns-in_err-check_dead : goal.returns-in_err-check_dead
+returns-in_err-check_dead c =
+    let p = err_from_is_err_and c.from_residual.result c.from_residual.ensures.1 in
+    rw (p.1, p.2)
+    (dead_uppers_decide c.requires.file.sized _ _ c.entries-v.ensures.0 c.find_marks.ensures _ (sym c.in_err-check_dead.was ∙ c.check_dead.ensures) refl)
 
-pub check_rest-requires : goal.check_rest-requires
-check_rest-requires c = let starts = c in
-    let entries = starts in
-    let pre = entries.requires in
-    let e = entries.entries-v.ensures.0 in
+pub invariant_of-checked : goal.invariant_of-checked
+invariant_of-checked c =
+    let pre = c.requires in
+    let e = c.entries-v.ensures.0 in
     record {
-      indexed = starts.find_starts.ensures.0;
-      uppers = uppers_in_range _ _ _ pre.file.of pre.layout e;
-      read = rest_in_range _ _ _ pre.file.of pre.layout e;
+      right = record {
+        indexed = c.find_starts.ensures.0;
+        uppers = uppers_in_range _ _ _ pre.file.of pre.layout e;
+        read = rest_in_range _ _ _ pre.file.of pre.layout e;
+      };
     }
 
 pub returns : goal.returns
-returns c = let marks = c in
-    let entries = marks in
-    rest_decides entries.requires.file.sized _ _ entries.entries-v.ensures.0 marks.find_marks.ensures _ _
-    c.check_dead-found.ensures c.in_default.is c.check_rest.ensures
+returns c =
+    rest_decides c.requires.file.sized _ _ c.entries-v.ensures.0 c.find_marks.ensures _ _
+    c.check_dead.ensures c.in_ok-check_dead.was c.check_rest.ensures

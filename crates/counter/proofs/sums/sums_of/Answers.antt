@@ -8,23 +8,19 @@ use Rattle.counter.proofs.StateSums.{sums_none, sums_all, sum_within, sum_at, su
 use Rattle.counter.proofs.sums.sums_of.Goals as goal
 
 pub loop-i-init : goal.loop-i-init
-loop-i-init c = (omega arith, c.moves-i-end.ensures, sums_none _)
+loop-i-init c = sums_none _
 
 pub overflow_add-sums : goal.overflow_add-sums
 overflow_add-sums c =
-    let own-state : c.from-u.result < most_states =
-    let turn = c in omega (arith, c.from-u.ensures.0, (turn.requires.right turn.loop-i.i (omega arith)).from_range) in
-    let turn = c in
-    let right = turn.requires in
-    let few : turn.loop-i.i ≤ moves_in turn.args.file.now = omega arith in
-    omega (arith, sum_at _ _ _ turn.loop-i.invariant.2 c.from-u.result own-state, right.most, sum_within _ _ right few c.from-u.result)
+    let right = c.requires in
+    let own-state : c.from-u.result < most_states = omega (arith, c.from-u.ensures.0, (right.right c.loop-i.i (omega arith)).from_range) in
+    let few : c.loop-i.i ≤ moves_in c.args.file.now = omega arith in
+    omega (arith, sum_at _ _ _ c.loop-i.invariant c.from-u.result own-state, right.most, sum_within _ _ right few c.from-u.result)
 
 pub loop-i-preserved : goal.loop-i-preserved
 loop-i-preserved c =
-    let own-state : c.from-u.result < most_states =
-    let turn = c in omega (arith, c.from-u.ensures.0, (turn.requires.right turn.loop-i.i (omega arith)).from_range) in
-    let inv = c.loop-i.invariant in
-    (omega arith, inv.1, sums_more _ _ _ inv.2 _ _ c.from-u.ensures.0 own-state c.weight.ensures.0)
+    let own-state : c.from-u.result < most_states = omega (arith, c.from-u.ensures.0, (c.requires.right c.loop-i.i (omega arith)).from_range) in
+    sums_more _ _ _ c.loop-i.invariant _ _ c.from-u.ensures.0 own-state c.weight.ensures.0
 
 pub returns : goal.returns
-returns c = c.loop-i.invariant.2 ∙ sums_all _ _ (omega arith)
+returns c = c.loop-i.invariant ∙ sums_all _ _ (omega arith)

@@ -1,37 +1,30 @@
--- `f`: the sum so far is that over the row's records passed, and the row's records are those from its start to the next row's.
-use Prim.Native.Nat.{◌+◌, ◌*◌, ◌^◌, ◌≤◌}
-use native.Mathlib.Nat.{zero-add}
+-- `f`: what the closure gives of a record is what the record contributes by definition, at most 2^45.
+use Prim.Native.Nat.{ℕ}
+use native.Mathlib.Nat.{le_trans}
 use native.Mathlib.Omega.{arith}
-use mathlib.Core.Path.{◌∙◌}
-use Rattle.ppda.specs.Equations.{f}
+use mathlib.Core.List.{List}
+use borrow.Author.Rules.{rules}
+use Rattle.ppda.specs.Units.{chance_unit}
+use Rattle.ppda.specs.Rules.{Push}
+use Rattle.ppda.specs.Equations.{f, through}
+use Rattle.model.specs.declared.sizes.Sizes.{Sizes}
 use Rattle.model.proofs.Accepted.{sized_fits}
-use Rattle.rows.proofs.Sums.{row_begin, row_more, row_end, row_within}
+use Rattle.delivery.specs.Numbers.{uppers_of}
 use Rattle.equations.proofs.Limits.{through_most}
 use Rattle.equations.proofs.chances.f.Goals as goal
 
-pub bounds-starts-row : goal.bounds-starts-row
-bounds-starts-row c = omega (arith, (sized_fits c.requires.files.0.sized).few_rows)
+abbrev contributed : Sizes → List ℕ → ℕ → ℕ → Push → ℕ
+contributed n d q r x = through n.states chance_unit (uppers_of n.states n.symbols d) r x q
 
-pub bounds-starts-row-2 : goal.bounds-starts-row-2
-bounds-starts-row-2 c = omega (arith, (sized_fits c.requires.files.0.sized).few_rows)
-
-pub loop-i-init : goal.loop-i-init
-loop-i-init c = let start = c in
-    row_begin _ _ _ start.args.starts.now start.requires.files.0.sized start.requires.files.0.starts_at start.requires.inside.0
-
-pub overflow_add-sum : goal.overflow_add-sum
-overflow_add-sum c =
-    let summed : c.loop-i.sum + c.weight.result * c.through.result ≤ 2 ^ 61 = let pre = c.requires in row_within (row_more c.loop-i.invariant c.loop-i-test.true c.weight.ensures.0 c.through.ensures.0) (2 ^ 45) (through_most _ _ (sized_fits pre.files.0.sized).few_states pre.files.1 _) in
-    omega (arith, summed, c.weighed-sum.ensures)
-
-pub loop-i-preserved : goal.loop-i-preserved
-loop-i-preserved c = let through = c in
-    rw c.weighed-sum.ensures
-    (row_more through.loop-i.invariant through.loop-i-test.true through.weight.ensures.0 through.through.ensures.0)
+pub sum_over_row-requires-clause-small : goal.sum_over_row-requires-clause-small
+sum_over_row-requires-clause-small c = let args = c.args in
+    let files = c.requires.files in
+    let most = through_most _ _ (sized_fits files.0.sized).few_states files.1 args.q in
+    (contributed args.n args.block.now args.q, record { given = λ i r l e. search rules; small = λ r x. le_trans (most r x) (omega arith) })
 
 pub returns : goal.returns
 unfolding f
-returns c = let pre = c.requires in
-    let inv = c.loop-i.invariant in
-    let most = row_within inv (2 ^ 45) (through_most _ _ (sized_fits pre.files.0.sized).few_states pre.files.1 _) in
-    (row_end inv c.loop-i-test.false ∙ zero-add _, most)
+returns c = let args = c.args in
+    let files = c.requires.files in
+    let most = through_most _ _ (sized_fits files.0.sized).few_states files.1 args.q in
+    c.sum_over_row.ensures (contributed args.n args.block.now args.q) _ record { given = λ i r l e. search rules; small = most }

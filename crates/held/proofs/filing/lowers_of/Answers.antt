@@ -15,20 +15,10 @@ slice_bounds-rest-start c = omega (arith, uppers_fit _ _ _ _ c.requires.of)
 
 pub values_by_exit-requires : goal.values_by_exit-requires
 values_by_exit-requires c =
-    let stand : has_lowers c.args.shape ≡ true =
-    sym c.has_lowers.ensures ∙ c.if-not-has_lowers.false in
-    let entries = c in
-    let start = entries in
-    let e = entries.entries-v.ensures in
-    record {
-      fits = start.requires.fits;
-      whole = part_holds start.args.delivery.now e.0 refl (lowers_fit _ _ _ _ start.requires.of (stand));
-    }
+    let stand : has_lowers c.args.shape ≡ true = sym c.has_lowers.ensures ∙ c.if-not-has_lowers.false in
+    record { fits = c.requires.fits; whole = part_holds c.args.delivery.now c.entries-v.ensures.0 refl (lowers_fit _ _ _ _ c.requires.of stand) }
 
 pub returns : goal.returns
 returns c =
-    let stand : has_lowers c.args.shape ≡ true =
-    sym c.has_lowers.ensures ∙ c.if-not-has_lowers.false in
-    let entries = c in
-    let fits = entries.requires.fits in
-    where_it_stands (stand) (lowers_listed _ _ _ fits.few_entries entries.entries-v.ensures.0 c.values_by_exit.ensures)
+    let stand : has_lowers c.args.shape ≡ true = sym c.has_lowers.ensures ∙ c.if-not-has_lowers.false in
+    where_it_stands stand (lowers_listed _ _ _ c.requires.fits.few_entries c.entries-v.ensures.0 c.values_by_exit.ensures)

@@ -6,14 +6,14 @@ use Rattle.wellformed.proofs.Accepted.{sized_by}
 use Rattle.held.proofs.Becomes.{model_fits, model_is}
 use Rattle.held.proofs.filing.model_of.Goals as goal
 
-pub overflow_cast-s : goal.overflow_cast-s
-overflow_cast-s c =
+pub overflow_cast-states : goal.overflow_cast-states
+overflow_cast-states c =
     let few : let n = c.sizes_of-n.result in Fits n.states n.symbols =
     sized_fits (sized_by c.requires c.sizes_of-n.ensures.0) in
     omega (arith, few.few_states)
 
-pub overflow_cast-g : goal.overflow_cast-g
-overflow_cast-g c =
+pub overflow_cast-symbols : goal.overflow_cast-symbols
+overflow_cast-symbols c =
     let few : let n = c.sizes_of-n.result in Fits n.states n.symbols =
     sized_fits (sized_by c.requires c.sizes_of-n.ensures.0) in
     omega (arith, few.few_symbols)

@@ -15,7 +15,5 @@ pub means_of-requires : goal.means_of-requires
 means_of-requires c = let file = c.requires.file in record { fits = sized_fits file.sized; of = file.of }
 
 pub returns : goal.returns
-returns c = let values = c in
-    let sized = values.requires.file.sized in
-    numbers_are _ _ sized.states sized.symbols _ values.values_by_exit.ensures
-    c.lowers_of.ensures c.means_of.ensures c.margin_or_zero.ensures
+returns c = let sized = c.requires.file.sized in
+    numbers_are _ _ sized.states sized.symbols _ c.values_by_exit.ensures c.lowers_of.ensures c.means_of.ensures c.margin_or_zero.ensures

@@ -6,7 +6,7 @@ use Rattle.held.proofs.Listed.{entries_none, entries_all}
 use Rattle.held.proofs.lists.by_entries.Goals as goal
 
 pub loop-e-init : goal.loop-e-init
-loop-e-init c = (omega arith, c.entries-most.ensures.1, entries_none _ _ most_entries refl)
+loop-e-init c = entries_none _ _ most_entries refl
 
 pub returns : goal.returns
-returns c = entries_all c.loop-e.invariant.2 _ (omega (arith, c.entries-most.ensures.0))
+returns c = entries_all c.loop-e.invariant _ (omega (arith, c.entries-e-end.ensures.0))

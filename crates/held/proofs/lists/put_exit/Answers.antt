@@ -8,13 +8,12 @@ use Rattle.held.proofs.Listed.{exit_value_lem, exits_more}
 use Rattle.held.proofs.lists.put_exit.Goals as goal
 
 pub loop-row-preserved : goal.loop-row-preserved
-loop-row-preserved c = let loop = c.loop-row in
-    let rows = c.rows-rows in
-    let start = c in
-    let n = start.args.n in
+loop-row-preserved c =
+    let args = c.args in
+    let n = args.n in
+    let row = c.loop-row.row in
     let exit = c.exit_in-at.ensures in
-    let entry = c.entry_in-e.ensures in
-    let below : loop.row < rows_in n.states n.symbols = omega (arith, rows.ensures.0) in
-    let value = c.value_at.ensures.0 ∙ ap (value_at start.args.block.now) entry.0
-    ∙ exit_value_lem n.states n.symbols loop.row start.args.q start.args.block.now below in
-    (omega arith, exits_more n.states n.symbols loop.row start.args.q _ loop.invariant.1 exit.0 (omega (arith, exit.0, exit.1, start.requires.0.fits.few_entries)) value)
+    let below : row < rows_in n.states n.symbols = omega (arith, c.rows-row-end.ensures.0) in
+    let value = c.value_at.ensures.0 ∙ ap (value_at args.block.now) c.entry_in-e.ensures.0
+    ∙ exit_value_lem n.states n.symbols row args.q args.block.now below in
+    exits_more n.states n.symbols row args.q _ c.loop-row.invariant exit.0 (omega (arith, exit.0, exit.1, c.requires.0.fits.few_entries)) value

@@ -1,4 +1,3 @@
-use Prim.Native.Nat.{◌-◌, ◌≤◌}
 use mathlib.Core.Path.{◌≡◌}
 use Rattle.walks.specs.Order.{exit_in, by_exit}
 use Rattle.delivery.specs.Numbers.{uppers_of}
@@ -6,7 +5,4 @@ use Rattle.held.specs.Held.{padded}
 use Rattle.held.proofs.lists.put_exit.Given as goal
 
 abbrev pub invariant-loop-row : goal.invariant-loop-row
-invariant-loop-row l = (l.row ≤ l.rows) × (l.list ≡ padded (by_exit l.n.states l.n.symbols (uppers_of l.n.states l.n.symbols l.block)) (exit_in l.n.states l.n.symbols l.row l.q))
-
-abbrev pub decreases-loop-row : goal.decreases-loop-row
-decreases-loop-row l = l.rows - l.row
+invariant-loop-row l = l.list ≡ padded (by_exit l.n.states l.n.symbols (uppers_of l.n.states l.n.symbols l.block)) (exit_in l.n.states l.n.symbols l.row l.q)

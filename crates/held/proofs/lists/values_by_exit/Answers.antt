@@ -5,4 +5,4 @@ use Rattle.held.proofs.Listed.{padded_none, padded_end}
 use Rattle.held.proofs.lists.values_by_exit.Goals as goal
 
 pub loop-q-init : goal.loop-q-init
-loop-q-init c = (omega (arith, c.requires.fits.some_states), padded_end _ (padded_none _ _ refl) (omega arith))
+loop-q-init c = padded_end _ (padded_none _ _ refl) (omega arith)

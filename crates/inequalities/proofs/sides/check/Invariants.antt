@@ -1,15 +1,10 @@
-use Prim.Native.Nat.{◌-◌, ◌≤◌}
+-- `check`: every row before number k has passed.
 use mathlib.Core.Path.{◌≡◌}
 use Rattle.outcome.specs.Tests.{first}
 use Rattle.walks.specs.Lists.{each}
-use Rattle.outcome.specs.declared.Outcome.TheVariants.{Accepted}
-use Rattle.walks.specs.Order.{rows_in}
-use Rattle.model.specs.Format.{most_rows}
 use Rattle.inequalities.specs.Clauses.{side_row}
 use Rattle.inequalities.proofs.sides.check.Given as goal
+use Rattle.outcome.specs.Outcomes.{Accepted}
 
 abbrev pub invariant-loop-k : goal.invariant-loop-k
-invariant-loop-k l = (l.k ≤ l.rows) × (l.rows ≡ rows_in l.n.states l.n.symbols) × (l.rows ≤ most_rows) × (first (each l.k (side_row l.side l.model l.n l.live l.block)) ≡ Accepted)
-
-abbrev pub decreases-loop-k : goal.decreases-loop-k
-decreases-loop-k l = l.rows - l.k
+invariant-loop-k l = first (each l.k (side_row l.side l.model l.n l.live l.block)) ≡ Accepted

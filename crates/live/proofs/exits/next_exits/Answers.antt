@@ -1,31 +1,15 @@
 -- `next_exits`: the exits so far are those that the row's records passed give.
 use Prim.Native.Nat.{◌+◌}
 use native.Mathlib.Omega.{arith}
-use Rattle.model.proofs.Accepted.{sized_fits}
 use Rattle.live.proofs.Bits.{exits_none, exits_more, exits_end}
 use Rattle.live.proofs.exits.next_exits.Goals as goal
-
-pub overflow_add-end : goal.overflow_add-end
-overflow_add-end c = omega (arith, (sized_fits c.requires.0.sized).few_rows)
-
-pub offset_bounds-starts-row : goal.offset_bounds-starts-row
-offset_bounds-starts-row c = omega (arith, (sized_fits c.requires.0.sized).few_rows)
-
-pub bounds-starts-row : goal.bounds-starts-row
-bounds-starts-row c = omega (arith, (sized_fits c.requires.0.sized).few_rows)
-
-pub offset_bounds-starts-row-2 : goal.offset_bounds-starts-row-2
-offset_bounds-starts-row-2 c = omega (arith, (sized_fits c.requires.0.sized).few_rows)
-
-pub bounds-starts-row-2 : goal.bounds-starts-row-2
-bounds-starts-row-2 c = omega (arith, (sized_fits c.requires.0.sized).few_rows)
 
 pub loop-i-init : goal.loop-i-init
 loop-i-init c = let args = c.args in
     let pre = c.requires in (
-      (pre.0.starts_at (args.row + 1) (omega arith)).within,
+      rw c.from-end.ensures (pre.0.starts_at (args.row + 1) (omega arith)).within,
       pre.0.sized.file.records.most,
-      λ q h. exits_none _ _ _ _ _ args.starts.now pre.0.sized pre.0.starts_at pre.1 q,
+      λ q h. rw (c.from-end.ensures, c.from-start.ensures) (exits_none _ _ _ _ _ args.starts.now pre.0.sized pre.0.starts_at pre.1 q),
     )
 
 pub loop-i-preserved : goal.loop-i-preserved

@@ -1,103 +1,14 @@
--- `file_delivery`: a delivery whose outcome is a refusal leaves the register as it is, and any other is filed beside its model.
-use Prim.Native.Nat.{◌≤◌}
-use native.Mathlib.Omega.{arith}
-use mathlib.Core.Bool.{false}
-use mathlib.Core.Path.{◌≡◌, refl, sym, ◌∙◌}
-use lib.ListN.{length, take}
-use lib.Seq.{length-take-le}
-use Rattle.outcome.specs.declared.Outcome.TheVariants.{Accepted}
-use Rattle.outcome.specs.Tests.{is_refused}
-use Rattle.outcome.proofs.Tests.{not_refused}
-use Rattle.model.specs.Clauses.{Sized}
-use Rattle.verdict.specs.Verdict.{verdict}
-use Rattle.model.specs.Format.{most_bytes}
-use Rattle.model.proofs.Accepted.{sized_fits}
-use Rattle.certificate.proofs.Steps.{sized_by_verdict}
-use Rattle.held.proofs.Becomes.{held_fits, shape_by_verdict}
-use Rattle.filing.specs.Outcomes.{delivery_outcome}
+-- `file_delivery`: an accepted delivery has its numbers for the held model.
+use mathlib.Core.Path.{sym, ◌∙◌}
 use Rattle.filing.proofs.Outcomes.{delivery_passed}
-use Rattle.register.proofs.Steps.{delivery_turned_away, delivery_filed}
+use Rattle.register.proofs.Steps.{accepted_fits, file_accepted}
 use Rattle.register.proofs.Register.file_delivery.Goals as goal
 
-pub returns-then-is_refused : goal.returns-then-is_refused
-returns-then-is_refused c = let tested = c in
-    c.delivery_refused.ensures ∙ delivery_turned_away _ _ tested.delivery_outcome-found.ensures (sym tested.is_refused.ensures ∙ c.if-is_refused.true)
-
-pub slice_bounds-bytes-end : goal.slice_bounds-bytes-end
-slice_bounds-bytes-end c =
-    let not-turned-away : is_refused c.delivery_outcome-found.result ≡ false =
-    sym c.is_refused.ensures ∙ c.if-is_refused.false in
-    let passed : let args = c.args in delivery_outcome args.self.model args.file.now ≡ Accepted =
-    sym c.delivery_outcome-found.ensures ∙ not_refused _ not-turned-away in
-    let bytes-size : length c.args.self.model.bytes ≡ most_bytes =
-    c.well_formed.0.1.1.0.1.1.0.1.0.1 in
-    let within : let model = c.args.self.model in model.length ≤ length model.bytes =
-    omega (arith, held_fits _ (delivery_passed _ _ passed).0, bytes-size) in
-    within
-
-pub slice_bounds-model-end : goal.slice_bounds-model-end
-slice_bounds-model-end c =
-    let not-turned-away : is_refused c.delivery_outcome-found.result ≡ false =
-    sym c.is_refused.ensures ∙ c.if-is_refused.false in
-    let passed : let args = c.args in delivery_outcome args.self.model args.file.now ≡ Accepted =
-    sym c.delivery_outcome-found.ensures ∙ not_refused _ not-turned-away in
-    let bytes-size : length c.args.self.model.bytes ≡ most_bytes =
-    c.well_formed.0.1.1.0.1.1.0.1.0.1 in
-    let within : let model = c.args.self.model in model.length ≤ length model.bytes =
-    omega (arith, held_fits _ (delivery_passed _ _ passed).0, bytes-size) in
-    sym (length-take-le _ _ within)
-
 pub shape_for-shape-requires : goal.shape_for-shape-requires
-shape_for-shape-requires c =
-    let not-turned-away : is_refused c.delivery_outcome-found.result ≡ false =
-    sym c.is_refused.ensures ∙ c.if-is_refused.false in
-    let passed : let args = c.args in delivery_outcome args.self.model args.file.now ≡ Accepted =
-    sym c.delivery_outcome-found.ensures ∙ not_refused _ not-turned-away in
-    let accepted : let args = c.args in verdict (take args.self.model.length args.self.model.bytes) args.file.now ≡ Accepted =
-    (delivery_passed _ _ passed).1 in
-    let sized : let args = c.args in let n = c.sizes_of-n.result in Sized (take args.self.model.length args.self.model.bytes) n.states n.symbols =
-    sized_by_verdict _ accepted c.sizes_of-n.ensures.0 in
-    sized_fits sized
+shape_for-shape-requires c = let passed = delivery_passed _ _ (sym c.delivery_outcome.ensures ∙ c.in_default.is) in accepted_fits _ _ passed.1 c.sizes_of-n.ensures.0
 
 pub numbers_of-numbers-requires : goal.numbers_of-numbers-requires
-numbers_of-numbers-requires c =
-    let not-turned-away : is_refused c.delivery_outcome-found.result ≡ false =
-    sym c.is_refused.ensures ∙ c.if-is_refused.false in
-    let passed : let args = c.args in delivery_outcome args.self.model args.file.now ≡ Accepted =
-    sym c.delivery_outcome-found.ensures ∙ not_refused _ not-turned-away in
-    let accepted : let args = c.args in verdict (take args.self.model.length args.self.model.bytes) args.file.now ≡ Accepted =
-    (delivery_passed _ _ passed).1 in
-    let sized : let args = c.args in let n = c.sizes_of-n.result in Sized (take args.self.model.length args.self.model.bytes) n.states n.symbols =
-    sized_by_verdict _ accepted c.sizes_of-n.ensures.0 in
-    let sizes = c in
-    let is = accepted in
-    record {
-      file = record { sized = sized; of = shape_by_verdict _ _ sizes.sizes_of-n.ensures.0 is c.shape_for-shape.ensures };
-      accepted = is;
-    }
+numbers_of-numbers-requires c = let passed = delivery_passed _ _ (sym c.delivery_outcome.ensures ∙ c.in_default.is) in file_accepted _ _ passed.1 c.sizes_of-n.ensures.0 c.shape_for-shape.ensures
 
-pub mark_by-mark-requires : goal.mark_by-mark-requires
-mark_by-mark-requires c =
-    let not-turned-away : is_refused c.delivery_outcome-found.result ≡ false =
-    sym c.is_refused.ensures ∙ c.if-is_refused.false in
-    let passed : let args = c.args in delivery_outcome args.self.model args.file.now ≡ Accepted =
-    sym c.delivery_outcome-found.ensures ∙ not_refused _ not-turned-away in
-    let accepted : let args = c.args in verdict (take args.self.model.length args.self.model.bytes) args.file.now ≡ Accepted =
-    (delivery_passed _ _ passed).1 in
-    let sized : let args = c.args in let n = c.sizes_of-n.result in Sized (take args.self.model.length args.self.model.bytes) n.states n.symbols =
-    sized_by_verdict _ accepted c.sizes_of-n.ensures.0 in
-    sized_fits sized
-
-pub returns : goal.returns
-returns c =
-    let not-turned-away : is_refused c.delivery_outcome-found.result ≡ false =
-    sym c.is_refused.ensures ∙ c.if-is_refused.false in
-    let numbers = c in
-    let shape = numbers in
-    let sizes = shape in
-    let branch = sizes in
-    let tested = branch in
-    let args = branch.args in
-    rw (← delivery_filed args.self args.file.now tested.delivery_outcome-found.ensures (not-turned-away)
-    shape.shape_for-shape.ensures numbers.numbers_of-numbers.ensures
-    sizes.sizes_of-n.ensures.0 c.mark_by-mark.ensures) refl
+pub holding-requires : goal.holding-requires
+holding-requires c = let passed = delivery_passed _ _ (sym c.delivery_outcome.ensures ∙ c.in_default.is) in accepted_fits _ _ passed.1 c.sizes_of-n.ensures.0

@@ -3,8 +3,4 @@ use Rattle.report.proofs.Asked.{chance_said}
 use Rattle.report.proofs.chances.asked.Goals as goal
 
 pub returns : goal.returns
-returns c = let lower = c in
-    let live = lower in
-    let args = live.args in
-    chance_said args.register args.p args.z args.q live.live.ensures live.says_live-live.ensures args.gap
-    lower.lower-lower.ensures c.upper-upper.ensures
+returns c = chance_said c.args.register c.args.p c.args.z c.args.q c.live.ensures c.says_live.ensures c.args.gap c.lower.ensures c.upper.ensures

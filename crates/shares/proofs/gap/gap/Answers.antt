@@ -1,11 +1,6 @@
 -- `gap`: the entry's upper stands, so that f can be taken from it.
-use Rattle.model.proofs.Records.{fits_narrow}
-use Rattle.model.proofs.Accepted.{sized_fits}
 use Rattle.shares.proofs.Shares.{gap_most, gap_found}
 use Rattle.shares.proofs.gap.gap.Goals as goal
-
-pub entry_in-requires : goal.entry_in-requires
-entry_in-requires c = let pre = c.requires in (fits_narrow (sized_fits pre.0.indexed.sized), pre.1, pre.2)
 
 pub overflow_sub-result : goal.overflow_sub-result
 overflow_sub-result c = let pre = c.requires in

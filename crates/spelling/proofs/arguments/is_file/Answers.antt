@@ -1,15 +1,16 @@
 -- `is_file`: what stands after the space is a name where it is one word of 1 to 255 bytes.
-use native.Mathlib.Omega.{arith}
-use mathlib.Core.Path.{sym}
-use Rattle.spelling.proofs.Rest.{part_from, file_short, file_long, file_by}
+use Rattle.std.proofs.Common.{rules, tests, sym, ◌∙◌}
+use Rattle.spelling.proofs.Rest.{file_none, file_sized, file_unsized}
 use Rattle.spelling.proofs.arguments.is_file.Goals as goal
 
-pub returns-then-rest-lt2 : goal.returns-then-rest-lt2
-returns-then-rest-lt2 c = sym (file_short _ (omega arith))
+pub returns-in_default : goal.returns-in_default
+returns-in_default c = sym (file_none _ (search rules))
 
-pub returns-then-rest : goal.returns-then-rest
-returns-then-rest c = sym (file_long _ (omega arith))
+pub returns-then-contains : goal.returns-then-contains
+returns-then-contains c =
+    rw c.word_end.ensures.0
+    (sym (file_sized c.args.rest.now c.in-Some.name.now _ c.in-Some.ensures.cases.0 (search (rules, tests)) (search (rules, tests))))
 
-pub returns : goal.returns
-returns c = let rest = c.args.rest.now in
-    rw c.word_end.ensures.0 (sym (file_by rest _ (part_from 1 rest) (omega arith) (omega arith)))
+pub returns-else-contains : goal.returns-else-contains
+returns-else-contains c =
+    c.if-contains.false ∙ sym (file_unsized c.args.rest.now c.in-Some.name.now _ c.in-Some.ensures.cases.0 (search (rules, tests)))

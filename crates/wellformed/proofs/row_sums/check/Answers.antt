@@ -19,7 +19,6 @@ rows-rows-requires c = rw c.requires.2 (sizes_fit _ c.requires.0.right)
 
 pub loop-k-init : goal.loop-k-init
 loop-k-init c = (
-  search rules,
   c.rows-rows.ensures.1,
   c.rows-rows.ensures.0 ∙ ap (λ (n : Sizes). rows_in n.states n.symbols) c.requires.2,
   each_none _,
@@ -32,18 +31,17 @@ returns-then-row-ne-WEIGHT_UNIT c =
     let sum-found : let model = c.args.model.now in c.sum_of_row-row.result.sum ≡ row_sum model (symbols_of model) c.loop-k.k = let start = c in c.sum_of_row-row.ensures.0 ∙ ap (λ (n : Sizes). row_sum start.args.model.now n.symbols c.loop-k.k) start.requires.2 in
     let fails = row_fails _ _ (λ e. c.if-row-ne-WEIGHT_UNIT.true (sum-found ∙ e)) in
     c.refused.ensures
-    ∙ sym (each_hit _ _ _ (omega arith) c.loop-k.invariant.3 (λ a. refusal_not_accepted _ a fails) ∙ fails)
+    ∙ sym (each_hit _ _ _ (omega arith) c.loop-k.invariant.2 (λ a. refusal_not_accepted _ a fails) ∙ fails)
 
 pub loop-k-preserved : goal.loop-k-preserved
 loop-k-preserved c =
     let sum-found : let model = c.args.model.now in c.sum_of_row-row.result.sum ≡ row_sum model (symbols_of model) c.loop-k.k = let start = c in c.sum_of_row-row.ensures.0 ∙ ap (λ (n : Sizes). row_sum start.args.model.now n.symbols c.loop-k.k) start.requires.2 in (
-      omega arith,
       search rules,
       search rules,
-      each_more _ _ c.loop-k.invariant.3 (row_passes _ _ (sym (sum-found) ∙ c.if-row-ne-WEIGHT_UNIT.false)),
+      each_more _ _ c.loop-k.invariant.2 (row_passes _ _ (sym (sum-found) ∙ c.if-row-ne-WEIGHT_UNIT.false)),
       c.sum_of_row-row.ensures.1,
     )
 
 pub returns : goal.returns
 unfolding rows_tests
-returns c = sym (each_end _ _ _ c.loop-k.invariant.3 (omega arith))
+returns c = sym (each_end _ _ _ c.loop-k.invariant.2 (omega arith))

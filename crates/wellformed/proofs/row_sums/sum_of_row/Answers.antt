@@ -8,7 +8,7 @@ use Rattle.wellformed.proofs.row_sums.sum_of_row.Goals as goal
 
 pub loop-at-init : goal.loop-at-init
 loop-at-init c = let start = c.requires.start in
-    (c.records-end.ensures, omega (arith, c.records-end.ensures, start.within), sum_none start)
+    (c.records-end.ensures, sum_none start)
 
 pub row-requires : goal.row-requires
 row-requires c = let file = c.requires.file in
@@ -20,20 +20,22 @@ unfolding row_of
 returns-then-row-k c =
     let row_read : c.row.result ≡ row_of c.args.model.now c.args.n.symbols c.loop-at.at = rw (c.row.ensures.0, c.symbol.ensures.0, c.state.ensures.0) in
     let pre = c.requires in
-    sum_stopped c.loop-at.invariant.2 pre.file.1 (ap (λ (n : Sizes). n.symbols) pre.file.2) pre.start (omega arith)
+    sum_stopped c.loop-at.invariant.1 pre.file.1 (ap (λ (n : Sizes). n.symbols) pre.file.2) pre.start (omega arith)
     (λ e. c.if-row-k.true (row_read ∙ e))
 
 pub overflow_add-sum : goal.overflow_add-sum
 overflow_add-sum c = let turn = c in
     let right = turn.requires.file.0 in
-    omega (arith, sum_within turn.loop-at.invariant.2 right, right.most)
+    omega (arith, sum_within turn.loop-at.invariant.1 right, right.most)
 
 pub loop-at-preserved : goal.loop-at-preserved
 unfolding row_of
 loop-at-preserved c =
     let row_read : c.row.result ≡ row_of c.args.model.now c.args.n.symbols c.loop-at.at = rw (c.row.ensures.0, c.symbol.ensures.0, c.state.ensures.0) in
     let inv = c.loop-at.invariant in
-    (inv.0, omega arith, sum_more inv.2 (omega arith) (sym (row_read) ∙ c.if-row-k.false) c.weight-sum.ensures.0)
+    (inv.0, sum_more inv.1 (omega arith) (sym (row_read) ∙ c.if-row-k.false) c.weight-sum.ensures.0)
 
 pub returns : goal.returns
-returns c = sum_ended c.loop-at.invariant.2 (omega arith)
+returns c =
+    let all : c.loop-at.at ≡ c.records-end.result = omega (arith, c.loop-at.invariant.1.within) in
+    rw all at (sum_ended c.loop-at.invariant.1 (omega arith))

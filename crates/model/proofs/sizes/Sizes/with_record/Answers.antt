@@ -3,5 +3,4 @@ use Rattle.model.proofs.Records.{sizes_more}
 use Rattle.model.proofs.sizes.Sizes.with_record.Goals as goal
 
 pub returns : goal.returns
-returns c = let start = c in
-    sizes_more start.requires.1 c.state_named.ensures c.symbol_named.ensures c.greater.ensures c.greater-2.ensures
+returns c = sizes_more c.requires.1 c.state_named.ensures c.symbol_named.ensures c.max.ensures c.max-2.ensures
