@@ -94,16 +94,16 @@ impl Register {
     }
 
     // The register with an accepted delivery's shape and numbers for its model, and the mark, by what is held.
-    fn holding(self, n: Sizes, shape: Shape, numbers: Numbers) -> Received
+    fn holding(&self, n: Sizes, shape: Shape, numbers: &Numbers) -> Received
         requires { Fits n.states n.symbols }
-        ensures { result ≡ holding_sized self n.states n.symbols shape numbers }
+        ensures { result ≡ holding_sized self.now n.states n.symbols shape numbers.now }
     {
-        let mark = mark_by(n, self.delivery, self.numbers, shape, numbers);
+        let mark = mark_by(n, self.delivery, self.numbers, shape, *numbers);
         Received {
             register: Register {
                 model: self.model,
                 delivery: Some(shape),
-                numbers,
+                numbers: *numbers,
             },
             receipt: Ok(mark),
         }
@@ -121,7 +121,7 @@ impl Register {
         let n = sizes_of(model);
         let shape = shape_for(file, n);
         let numbers = numbers_of(model, file, n, shape);
-        self.holding(n, shape, numbers)
+        self.holding(n, shape, &numbers)
     }
 
     // Merges the held delivery with a second one for the held model. The mark compares what is made with the delivery that was held.
@@ -137,7 +137,7 @@ impl Register {
         let first = shape_held(self.delivery);
         let second = shape_for(file, n);
         let merged = merged_numbers(model, n, first, self.numbers, second, file);
-        self.holding(n, merged_shape(first, second), merged)
+        self.holding(n, merged_shape(first, second), &merged)
     }
 
     // Whether a model is held, on which the register's own reasons for a filing go.
@@ -169,12 +169,13 @@ impl Register {
         }
     }
 
-    // The upper of an entry.
+    // The upper of an entry. Each question copies its own list out of the register: where it lends a part of it, the whole register is copied at the call.
     #[tactic(auto, unfolding(crate::specs::Questions::upper_in))]
     pub fn upper(self, p: usize, z: usize, q: usize) -> Answer
         ensures { result ≡ upper_in self p z q }
     {
-        questions::upper(self.shown(), &self.numbers.uppers, p, z, q)
+        let list = self.numbers.uppers;
+        questions::upper(self.shown(), &list, p, z, q)
     }
 
     // The lower of an entry.
@@ -182,7 +183,8 @@ impl Register {
     pub fn lower(self, p: usize, z: usize, q: usize) -> Answer
         ensures { result ≡ lower_in self p z q }
     {
-        questions::lower(self.shown(), &self.numbers.lowers, p, z, q)
+        let list = self.numbers.lowers;
+        questions::lower(self.shown(), &list, p, z, q)
     }
 
     // The mean steps of a row.
@@ -190,7 +192,8 @@ impl Register {
     pub fn mean_steps(self, p: usize, z: usize) -> Answer
         ensures { result ≡ mean_in self p z }
     {
-        questions::mean_steps(self.shown(), &self.numbers.means, p, z)
+        let list = self.numbers.means;
+        questions::mean_steps(self.shown(), &list, p, z)
     }
 
     // The margin.
@@ -206,7 +209,8 @@ impl Register {
     pub fn live(self, p: usize, z: usize, q: usize) -> Answer
         ensures { result ≡ live_in self p z q }
     {
-        questions::live(self.shown(), &self.model.live, p, z, q)
+        let list = self.model.live;
+        questions::live(self.shown(), &list, p, z, q)
     }
 
     // The chance of an entry within so many steps, which needs a model only.
@@ -214,10 +218,11 @@ impl Register {
     pub fn within(self, steps: usize, p: usize, z: usize, q: usize) -> Answer
         ensures { result ≡ within_in self steps p z q }
     {
+        let bytes = self.model.bytes;
         let mut starts = [0u16; STARTS];
-        let sizes = index::find(&self.model.bytes, self.model.length, &mut starts);
+        let sizes = index::find(&bytes, self.model.length, &mut starts);
         let asked = ShortRun { steps, p, z, q };
-        questions::within(self.shown(), sizes, &self.model.bytes, &starts, asked)
+        questions::within(self.shown(), sizes, &bytes, &starts, asked)
     }
 
     // What questions are answered from, beside the lists of numbers.

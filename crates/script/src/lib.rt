@@ -7,7 +7,7 @@ ghost use Rattle.register.specs.Filing.{cleared};
 ghost use Rattle.replies.specs.declared.Response.TheVariants.{Silence, Cleared};
 ghost use Rattle.said.specs.declared.Change.TheVariants.{Model, Counter, Delivery, Merge};
 ghost use Rattle.script.specs.Script.{change_reads, reads_file};
-ghost use Rattle.script.specs.Clauses.{may_change, asks_short, answered_from, filed_as, received_as, change_made, changed_by};
+ghost use Rattle.script.specs.Clauses.{may_change, asks_short, answered_from, responded, filed_as, received_as, change_made, changed_by};
 
 use model::format::{MOST_BYTES, MOST_ENTRIES};
 use model::sizes::Sizes;
@@ -109,19 +109,54 @@ impl From<Received> for Responded {
     }
 }
 
-// Makes a change, where the file that is named has these bytes.
+// Clears.
+fn clear(register: Register) -> Responded
+    ensures { result ≡ responded cleared Cleared }
+{
+    Responded {
+        register: register.clear(),
+        response: Response::Cleared,
+    }
+}
+
+// Files a model.
+fn file_model(register: Register, file: &[u8]) -> Responded
+    ensures { result ≡ change_made register Model file.now }
+{
+    register.file_model(file).into()
+}
+
+// Files a counter file.
+fn file_counter(register: Register, file: &[u8]) -> Responded
+    ensures { result ≡ change_made register Counter file.now }
+{
+    counter::filings::file_counter(register, file).into()
+}
+
+// Files a delivery.
+fn file_delivery(register: Register, file: &[u8]) -> Responded
+    ensures { result ≡ change_made register Delivery file.now }
+{
+    register.file_delivery(file).into()
+}
+
+// Merges a delivery with the held one.
+fn merge_delivery(register: Register, file: &[u8]) -> Responded
+    ensures { result ≡ change_made register Merge file.now }
+{
+    register.merge_delivery(file).into()
+}
+
+// Makes a change, where the file that is named has these bytes. Each has a function of its own, since a function clears room for all that it may hold at its start.
 fn make(register: Register, change: Change, file: &[u8]) -> Responded
     ensures { result ≡ change_made register change file.now }
 {
     match change {
-        Change::Clear => Responded {
-            register: register.clear(),
-            response: Response::Cleared,
-        },
-        Change::Model => register.file_model(file).into(),
-        Change::Counter => counter::filings::file_counter(register, file).into(),
-        Change::Delivery => register.file_delivery(file).into(),
-        Change::Merge => register.merge_delivery(file).into(),
+        Change::Clear => clear(register),
+        Change::Model => file_model(register, file),
+        Change::Counter => file_counter(register, file),
+        Change::Delivery => file_delivery(register, file),
+        Change::Merge => merge_delivery(register, file),
     }
 }
 
