@@ -8,7 +8,7 @@ use mathlib.Core.List.{List}
 use mathlib.Core.Logic.{◌⊎◌, inl, inr}
 use mathlib.Core.Path.{◌≡◌, refl, sym, ap, ◌∙◌}
 use lib.Dec.{eqb}
-use lib.ListN.{get_or, set, replicate, length-set, length-replicate}
+use lib.ListN.{length, get_or, set, replicate, length-set, length-replicate}
 use lib.Seq.{get_or-set_same, get_or-set_other}
 use borrow.Author.Tests.{eqb-true, eqb-false}
 use Rattle.walks.specs.Sums.{sign}
@@ -18,7 +18,7 @@ use Rattle.ppda.specs.Live.{mark, alive}
 use Rattle.model.specs.Rules.{rules_of}
 use Rattle.walks.proofs.Lists.{get_d_zeros}
 use Rattle.walks.proofs.Places.{row_at_lem, row_below}
-use Rattle.live.specs.Clauses.{exit_marks, ExitsOf, next_mark, NextExits, RoundTo}
+use Rattle.live.specs.Clauses.{bit_of, exit_marks, ExitsOf, next_mark, NextExits, RoundTo}
 use Rattle.model.specs.Clauses.{Sized}
 use Rattle.live.proofs.Bits.{bit_none}
 use Rattle.model.specs.Format.{most_rows}
@@ -52,6 +52,10 @@ unfolding mark
 no_exits m s g e =
     rw e (record { size = length-replicate {A = ℕ} most_rows 0; marks = λ p z q hp hz hq. rw (get_d_zeros most_rows (p * g + z)) (bit_none q) })
 
+-- So many rounds by another name.
+pub after_rounds : (m : List Rule) (s g : ℕ) {k j : ℕ} {l : List ℕ} → k ≡ j → ExitsOf s g (mark m s k) l → ExitsOf s g (mark m s j) l
+after_rounds m s g e held = rw e at held
+
 mark_next : (m : List Rule) (s k p z q : ℕ) → mark m s (k + 1) p z q ≡ sign (f m s 1 (mark m s k) p z q)
 unfolding mark
 mark_next m s k p z q = rw add-one
@@ -81,9 +85,14 @@ module _ {b : List ℕ} {s g : ℕ} (sized : Sized b s g) (marks : List ℕ) (k 
       ∙ ap sign (f_same (sized_model sized) 1 (exit_marks g marks) (mark (rules_of b) s k) held.marks p z q hq)
       ∙ sym (mark_next (rules_of b) s k p z q)
 
-  -- The list of the next round has the marks of one round more.
-  pub marks_next : {next : List ℕ} → RoundTo b s g marks (s * g) next → ExitsOf s g (mark (rules_of b) s (k + 1)) next
-  marks_next to = record { size = to.size; marks = one_more to }
+  -- A list with the rows of the next round has the marks of one round more.
+  pub marks_next : {next l : List ℕ} → RoundTo b s g marks (s * g) next → length l ≡ most_rows
+      → ((e : ℕ) → e < s * g → get_or l e 0 ≡ get_or next e 0) → ExitsOf s g (mark (rules_of b) s (k + 1)) l
+  marks_next to size copied =
+      record {
+        size = size;
+        marks = λ p z q hp hz hq. ap (λ n. bit_of n q) (copied (p * g + z) (row_below s g p z hp hz)) ∙ one_more to p z q hp hz hq;
+      }
 
   -- As many rounds as there are entries, or a round that changes nothing, give the live marks.
   pub marks_all : k ≡ s * g * s → ExitsOf s g (alive (rules_of b) s g) marks
@@ -92,7 +101,7 @@ module _ {b : List ℕ} {s g : ℕ} (sized : Sized b s g) (marks : List ℕ) (k 
       record { size = held.size; marks = λ p z q hp hz hq. held.marks p z q hp hz hq ∙ ap (λ n. mark (rules_of b) s n p z q) e }
 
   pub marks_unchanged : {next : List ℕ} → k ≤ s * g * s → RoundTo b s g marks (s * g) next
-      → marks ≡ next → ExitsOf s g (alive (rules_of b) s g) marks
+      → ((e : ℕ) → e < s * g → get_or marks e 0 ≡ get_or next e 0) → ExitsOf s g (alive (rules_of b) s g) marks
   unfolding alive
   marks_unchanged l to unchanged =
       record {
@@ -103,5 +112,5 @@ module _ {b : List ℕ} {s g : ℕ} (sized : Sized b s g) (marks : List ℕ) (k 
       still : Same s g (mark (rules_of b) s k) (mark (rules_of b) s (k + 1))
       still p z q hp hz hq =
           sym (held.marks p z q hp hz hq)
-          ∙ ap (λ l. exit_marks g l p z q) unchanged
+          ∙ ap (λ n. bit_of n q) (unchanged (p * g + z) (row_below s g p z hp hz))
           ∙ one_more to p z q hp hz hq

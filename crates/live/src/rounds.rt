@@ -37,7 +37,7 @@ pub fn find_marks(model: &[u8], starts: &[u16; STARTS], n: Sizes, marks: &mut [u
     ensures { ExitsOf n.states n.symbols (alive (rules_of model.now) n.states n.symbols) marks.new }
 {
     let mut next = [0u8; MOST_ROWS];
-    for _done in 0..n.entries() {
+    for _left in (0..n.entries()).rev() {
         round(model, starts, marks, &mut next, n);
         if *marks == next {
             return;
