@@ -47,6 +47,11 @@ counter_right r c e = ((counter_accepted c).0 (counter_passed r c e).1).records
 
 -- ---- the filing
 
+-- A refusal leaves the register as it is, by the outcome.
+pub counter_by_lem : (o : Outcome) (r : Register) (c : List ℕ) → is_refused o ≡ true → turned_down r o ≡ counter_by o r c
+counter_by_lem (Ok u) r c e = absurd (false≢true e)
+counter_by_lem (Err why) r c e = refl
+
 pub counter_turned_down : (r : Register) (c : List ℕ) {why : Refusal} → counter_outcome r c ≡ Err why → turned_down r (Err why) ≡ file_counter r c
 unfolding file_counter
 counter_turned_down r c e = rw e

@@ -11,10 +11,16 @@ use Rattle.delivery.specs.declared.shape.Shape.{Shape}
 use Rattle.held.specs.declared.HeldModel.{HeldModel}
 use Rattle.held.specs.Held.{holds_model, is_held}
 use Rattle.filing.specs.Outcomes.{model_outcome, file_of, delivery_outcome, merge_outcome}
-use Rattle.outcome.specs.Outcomes.{Accepted}
+use lib.IntN.{pos}
+use Rattle.outcome.specs.declared.Reason.TheVariants.{ModelHeld}
+use Rattle.outcome.specs.Outcomes.{Accepted, Refused}
 use Rattle.std.specs.Prelude.{Option}
 
--- Where no model is held, a model file is judged.
+-- Where a model is held, a model file is refused; where none is held, it is judged.
+pub model_held_lem : (n : ℕ) (b : List ℕ) → holds_model n ≡ true → model_outcome n b ≡ Refused ModelHeld 0 (pos 0)
+unfolding model_outcome
+model_held_lem n b e = rw e
+
 pub model_judged : (n : ℕ) (b : List ℕ) → holds_model n ≡ false → model_outcome n b ≡ model_verdict b
 unfolding model_outcome
 model_judged n b e = rw e

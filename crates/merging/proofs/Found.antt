@@ -4,7 +4,7 @@ use native.Mathlib.Omega.{arith}
 use mathlib.Core.Bool.{Bool, cond, ◌&&◌}
 use mathlib.Core.List.{List}
 use mathlib.Core.Logic.{◌⊎◌, inl, inr}
-use mathlib.Core.Path.{◌≡◌, ◌∙◌}
+use mathlib.Core.Path.{◌≡◌, ap₂, ◌∙◌}
 use lib.ListN.{get_or, replicate, length-replicate}
 use Rattle.walks.specs.Order.{entries_in, AtEntries}
 use Rattle.walks.proofs.Lists.{get_d_zeros}
@@ -43,6 +43,11 @@ kept_none answers l k =
 pub kept_is : {rule : ℕ → ℕ → ℕ} {n : ℕ} {l k r : List ℕ} → KeptBy (λ x y v. v ≡ rule x y) n l k r → r ≡ kept_to rule n l k
 unfolding kept_to
 kept_is by = padded_is by.size by.kept by.none
+
+-- The smaller of the held uppers and the file's are the merged uppers.
+pub uppers_found : (s g : ℕ) (former : Numbers) (d : List ℕ) {n : ℕ} {b r : List ℕ} → n ≡ entries_in s g
+    → b ≡ listed_by_exit s g (uppers_of s g d) → r ≡ kept_to min n former.uppers b → r ≡ uppers_merged s g former d
+uppers_found s g former d e second is = is ∙ ap₂ (λ k l. kept_to min k former.uppers l) e second
 
 -- ---- the margin
 

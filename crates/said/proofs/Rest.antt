@@ -53,14 +53,14 @@ by_test : (t : Bool) (ns : List ℕ) (ask : List ℕ → Question) → cond t (S
 by_test true ns ask = refl
 by_test false ns ask = refl
 
-row_said : (ask : ℕ → ℕ → Question) (ws : List (List ℕ)) → on_row ask ws ≡ asked (of_row ask) (numbers_of 2 ws)
+pub row_said : (ask : ℕ → ℕ → Question) (ws : List (List ℕ)) → on_row ask ws ≡ asked (of_row ask) (numbers_of 2 ws)
 unfolding numbers_of
 row_said ask [] = other_words 2 [] (of_row ask) (omega arith)
 row_said ask (p ∷ []) = other_words 2 (p ∷ []) (of_row ask) (omega arith)
 row_said ask (p ∷ z ∷ []) = rw (and-true (is_number z)) (by_test _ (number_in p ∷ number_in z ∷ []) (of_row ask))
 row_said ask (p ∷ z ∷ w ∷ ws) = other_words 2 (p ∷ z ∷ w ∷ ws) (of_row ask) (omega arith)
 
-entry_said : (ask : ℕ → ℕ → ℕ → Question) (ws : List (List ℕ)) → on_entry ask ws ≡ asked (of_entry ask) (numbers_of 3 ws)
+pub entry_said : (ask : ℕ → ℕ → ℕ → Question) (ws : List (List ℕ)) → on_entry ask ws ≡ asked (of_entry ask) (numbers_of 3 ws)
 unfolding numbers_of
 entry_said ask [] = other_words 3 [] (of_entry ask) (omega arith)
 entry_said ask (p ∷ []) = other_words 3 (p ∷ []) (of_entry ask) (omega arith)
@@ -68,7 +68,7 @@ entry_said ask (p ∷ z ∷ []) = other_words 3 (p ∷ z ∷ []) (of_entry ask) 
 entry_said ask (p ∷ z ∷ q ∷ []) = rw (and-true (is_number q)) (by_test _ (number_in p ∷ number_in z ∷ number_in q ∷ []) (of_entry ask))
 entry_said ask (p ∷ z ∷ q ∷ w ∷ ws) = other_words 3 (p ∷ z ∷ q ∷ w ∷ ws) (of_entry ask) (omega arith)
 
-steps_said : (ask : ℕ → ℕ → ℕ → ℕ → Question) (ws : List (List ℕ)) → on_steps ask ws ≡ asked (of_steps ask) (numbers_of 4 ws)
+pub steps_said : (ask : ℕ → ℕ → ℕ → ℕ → Question) (ws : List (List ℕ)) → on_steps ask ws ≡ asked (of_steps ask) (numbers_of 4 ws)
 unfolding numbers_of
 steps_said ask [] = other_words 4 [] (of_steps ask) (omega arith)
 steps_said ask (n ∷ []) = other_words 4 (n ∷ []) (of_steps ask) (omega arith)

@@ -83,6 +83,10 @@ module _ (b : List ℕ) (i n q : ℕ) where
   pub pushes_none : pushes b i ≡ 0 → after_push b n q (target b i) (push_at b i) ≡ 65536 ^ n * bit (eqb (target b i) q)
   pushes_none e = rw (pushes_nothing (pushes b i) (top b i) (under b i) e) (chance_empty (rules_of b) n (target b i) q)
 
+-- A record pushes two symbols, one, or none.
+pub pushes_nothing_left : (l : ℕ) → l ≤ 2 → (l ≡ 2 → ⊥) → (l ≡ 1 → ⊥) → l ≡ 0
+pushes_nothing_left l most two one = omega arith
+
 -- A sum over a row is far from the end of 64 bits.
 pub row_limit : {b : List ℕ} {s g p z k a e i m : ℕ} (n q : ℕ) → RowSum b s g p z (after_push b n q) k a e 0 i m → n < most_steps → m ≤ 2 ^ 48
 row_limit n q at few =

@@ -166,3 +166,23 @@ pieces_one l e = pieces_split l ∙ rw (e, take-length, drop-length, arguments_n
 -- A text with a space: its first word, and the words after the space.
 pub pieces_more : (l : List ℕ) → word_end l < length l → pieces 32 l ≡ take (word_end l) l ∷ pieces 32 (drop (word_end l + 1) l)
 pieces_more l h = pieces_split l ∙ rw (arguments_after l (word_end l) h)
+
+-- Digits have no space among them, so that a text with a space is no number.
+pub digits_end : (w : List ℕ) → every is_digit w ≡ true → word_end w ≡ length w
+unfolding every word_end
+digits_end [] e = refl
+digits_end (x ∷ xs) e =
+    let (digit, rest) = (and-eq-true_iff (is_digit x) (every is_digit xs)).0 e in
+    go (eqb x 32) refl digit (digits_end xs rest)
+  where
+    go : (t : Bool) → eqb x 32 ≡ t → is_digit x ≡ true → word_end xs ≡ length xs → cond t 0 (suc (word_end xs)) ≡ suc (length xs)
+    go true q digit ih = let z : x ≡ 32 = eqb-true x 32 q in let f : is_digit 32 ≡ true = rw z at digit in let o : ◌≡◌ {A = ℕ} 0 1 = cc in absurd (omega arith)
+    go false q digit ih = ap suc ih
+
+pub spaced_not : (text : List ℕ) → word_end text < length text → number_as text ≡ None
+unfolding number_as is_number
+spaced_not text h = go (every is_digit text) refl
+  where
+    go : (t : Bool) → every is_digit text ≡ t → cond ((leb 1 (length text) && leb (length text) 9) && t) (Some (number_in text)) None ≡ None
+    go true e = absurd (omega (arith, digits_end text e))
+    go false e = rw (and-false (leb 1 (length text) && leb (length text) 9))

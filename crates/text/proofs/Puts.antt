@@ -2,11 +2,12 @@
 use Prim.Native.Nat.{ℕ, ◌+◌, ◌*◌, ◌≤◌, ◌<◌}
 use native.Mathlib.Numerals.{add-one}
 use native.Mathlib.Omega.{arith}
-use mathlib.Core.List.{List, [], ◌∷◌, ◌++◌, append_assoc, append-nil}
+use mathlib.Core.List.{List, [], ◌∷◌, ◌++◌, map, append_assoc, append-nil}
 use mathlib.Core.Path.{◌≡◌, refl, sym, ap, subst, ◌∙◌}
 use lib.ListN.{length, take, get_or, length-append}
 use lib.Seq.{take-suc}
 use Rattle.text.specs.Decimal.{decimal}
+use Rattle.text.specs.Texts.{fields}
 use Rattle.text.specs.Clauses.{spaced, Put}
 use Rattle.walks.specs.Lists.{each}
 
@@ -77,3 +78,12 @@ pub spaced_one : {l a b c : List ℕ} {at m e i : ℕ} → Spaced l a b at m i �
     → Put b c m e (32 ∷ decimal (get_or l i 0)) × (e ≤ m + 21) → Spaced l a c at e (i + 1)
 spaced_one {l} {i = i} so turn field =
     record { to = omega arith; most = omega arith; some = put_as (sym (spaced_more l i turn)) (put_then so.some field.0) }
+
+-- The fields of numbers, and fields after them, are the fields of both.
+spaced_fields : (l : List ℕ) (xs : List (List ℕ)) → spaced l ++ fields xs ≡ fields (map decimal l ++ xs)
+spaced_fields [] xs = refl
+spaced_fields (n ∷ l) xs = ap (λ t. 32 ∷ t) (rw append_assoc (ap (λ t. decimal n ++ t) (spaced_fields l xs)))
+
+pub put_fields : {a b c : List ℕ} {at m e : ℕ} (w l : List ℕ) (xs : List (List ℕ)) → Put a b at m (w ++ spaced l)
+    → Put b c m e (fields xs) → Put a c at e (w ++ fields (map decimal l ++ xs))
+put_fields w l xs p q = put_as (rw (append_assoc, spaced_fields)) (put_then p q)
